@@ -1,0 +1,96 @@
+-- A map of vectors, seen as a finite map of lists.
+use Rattle.std.proofs.Common.{◌≡◌, ℕ, Bool, true, false, cond, List, [], ◌∷◌, map, Option, Some, None, refl, sym, ap, ◌∙◌}
+use Rattle.std.specs.Prelude.{is_some, IfNone, replicate, slice_get, slice_set}
+use Rattle.std.specs.Global.{Vec}
+use Rattle.std.specs.Option.{option_map, option_and_then}
+use Rattle.std.specs.Ordering.{nat_cmp}
+use Rattle.std.specs.Cmp.{nat_cmp_total, eq_by_cmp_equiv}
+use Rattle.std.specs.Map.{lookup}
+use Rattle.std.specs.BTreeMap.{BTreeMap, is_at}
+use Rattle.std.specs.BTreeMap as tree
+use Rattle.std.specs.FinMap.{find, get, insert, remove, from_entries, get-from_entries, get-insert, get-remove, same_map}
+use Rattle.std.proofs.lemmas.Map.Lookups.{exact_unsigned}
+use Rattle.xc_word.specs.declared.memory.Cell.{Cell}
+use Rattle.xc_word.specs.declared.memory.Place.{Place}
+use Rattle.xc_word.specs.Cells.{Segments, cell_at, put_cell, put_in, fresh}
+
+abbrev pub items_of : List (ℕ × Vec Cell) → List (ℕ × List Cell)
+items_of es = map (λ e. (e.0, e.1.items)) es
+
+abbrev pub seen : BTreeMap ℕ (Vec Cell) → Segments
+seen m = from_entries (items_of m.entries)
+
+abbrev pub items_at : Option (Vec Cell) → Option (List Cell)
+items_at o = option_map (λ v. v.items) o
+
+pushed : (b : Bool) (v : Vec Cell) (o : Option (Vec Cell)) → cond b (Some v.items) (items_at o) ≡ items_at (cond b (Some v) o)
+pushed true v o = refl
+pushed false v o = refl
+
+find_items : (es : List (ℕ × Vec Cell)) (q : ℕ) → find nat_cmp q (items_of es) ≡ items_at (lookup (is_at (nat_cmp q)) es)
+find_items [] q = refl
+find_items (e ∷ es) q = ap (cond (is_at (nat_cmp q) e.0) (Some e.1.items)) (find_items es q) ∙ pushed (is_at (nat_cmp q) e.0) e.1 (lookup (is_at (nat_cmp q)) es)
+
+pub get_seen : (m : BTreeMap ℕ (Vec Cell)) (q : ℕ) → get (seen m) q ≡ items_at (tree.get nat_cmp m q)
+get_seen m q = get-from_entries nat_cmp_total (items_of m.entries) q ∙ find_items m.entries q
+
+-- a map with one more or another vector at s
+pub insert_seen : (m n : BTreeMap ℕ (Vec Cell)) (s : ℕ) (v : Vec Cell) → ((q : ℕ) → tree.get nat_cmp n q ≡ cond (is_at (nat_cmp s) q) (Some v) (tree.get nat_cmp m q)) → seen n ≡ insert (seen m) s v.items
+insert_seen m n s v h = same_map nat_cmp_total exact_unsigned _ _ (λ q.
+    get_seen n q ∙ ap items_at (h q) ∙ sym (pushed (is_at (nat_cmp s) q) v (tree.get nat_cmp m q))
+    ∙ ap (λ b. cond b (Some v.items) (items_at (tree.get nat_cmp m q))) ((eq_by_cmp_equiv nat_cmp_total).symm s q)
+    ∙ sym (get-insert nat_cmp_total (seen m) s v.items q ∙ ap (cond (is_at (nat_cmp q) s) (Some v.items)) (get_seen m q)))
+
+emptied : (b : Bool) (o : Option (Vec Cell)) → items_at (cond b None o) ≡ cond b None (items_at o)
+emptied true o = refl
+emptied false o = refl
+
+pub remove_seen : (m n : BTreeMap ℕ (Vec Cell)) (s : ℕ) → ((q : ℕ) → tree.get nat_cmp n q ≡ cond (is_at (nat_cmp s) q) None (tree.get nat_cmp m q)) → seen n ≡ remove (seen m) s
+remove_seen m n s h = same_map nat_cmp_total exact_unsigned _ _ (λ q.
+    get_seen n q ∙ ap items_at (h q) ∙ emptied (is_at (nat_cmp s) q) (tree.get nat_cmp m q)
+    ∙ ap (λ b. cond b None (items_at (tree.get nat_cmp m q))) ((eq_by_cmp_equiv nat_cmp_total).symm s q)
+    ∙ sym (get-remove nat_cmp_total (seen m) s q ∙ ap (cond (is_at (nat_cmp q) s) None) (get_seen m q)))
+
+kept : (o : Option (Vec Cell)) → is_some (items_at o) ≡ is_some o
+kept None = refl
+kept (Some v) = refl
+
+pub none_then : {X : Type 0} (r : Option X) (P : Type 0) → false ≡ is_some r → IfNone r P → P
+none_then None P e h = h
+none_then (Some x) P e h = absurd cc
+
+-- what the methods need, of a memory that is seen as `now`
+
+module _ (m : BTreeMap ℕ (Vec Cell)) (now : Segments) (is : seen m ≡ now) where
+  pub get_now : (s : ℕ) → get now s ≡ items_at (tree.get nat_cmp m s)
+  get_now s = ap (λ x. get x s) (sym is) ∙ get_seen m s
+
+  pub cell_now_some : (p : Place) (v : Vec Cell) → tree.get nat_cmp m p.seg ≡ Some v → cell_at now p ≡ slice_get v.items p.off
+  cell_now_some p v e = ap (option_and_then (λ cells. slice_get cells p.off)) (get_now p.seg ∙ ap items_at e)
+
+  pub cell_now_none : (p : Place) → tree.get nat_cmp m p.seg ≡ None → cell_at now p ≡ None
+  cell_now_none p e = ap (option_and_then (λ cells. slice_get cells p.off)) (get_now p.seg ∙ ap items_at e)
+
+  pub insert_now : (n : BTreeMap ℕ (Vec Cell)) (s : ℕ) (v : Vec Cell) → ((q : ℕ) → tree.get nat_cmp n q ≡ cond (is_at (nat_cmp s) q) (Some v) (tree.get nat_cmp m q)) → seen n ≡ insert now s v.items
+  insert_now n s v h = insert_seen m n s v h ∙ ap (λ x. insert x s v.items) is
+
+  -- a vector of clones of a new cell
+  pub added : (n : BTreeMap ℕ (Vec Cell)) (s : ℕ) (v : Vec Cell) (count : ℕ) (x : Cell) → x ≡ fresh → ((q : ℕ) → tree.get nat_cmp n q ≡ cond (is_at (nat_cmp s) q) (Some v) (tree.get nat_cmp m q)) → (((y : Cell) → y ≡ x → y ≡ x) → v.items ≡ replicate count x) → seen n ≡ insert now s (replicate count fresh)
+  added n s v count x e h clones = insert_now n s v h ∙ ap (insert now s) (clones (λ y f. f) ∙ ap (replicate count) e)
+
+  pub remove_now : (n : BTreeMap ℕ (Vec Cell)) (s : ℕ) → ((q : ℕ) → tree.get nat_cmp n q ≡ cond (is_at (nat_cmp s) q) None (tree.get nat_cmp m q)) → seen n ≡ remove now s
+  remove_now n s h = remove_seen m n s h ∙ ap (λ x. remove x s) is
+
+  -- one vector has other cells
+  pub put_now : (n : BTreeMap ℕ (Vec Cell)) (p : Place) (c : Cell) (v w : Vec Cell) → tree.get nat_cmp m p.seg ≡ Some v → w.items ≡ slice_set v.items p.off c
+      → ((q : ℕ) → tree.get nat_cmp n q ≡ cond (is_at (nat_cmp p.seg) q) (Some w) (tree.get nat_cmp m q)) → seen n ≡ put_cell now p c
+  put_now n p c v w e f h = insert_now n p.seg w h ∙ ap (insert now p.seg) f ∙ sym (ap (put_in now p c) (get_now p.seg ∙ ap items_at e))
+
+  pub put_now_none : (p : Place) (c : Cell) → tree.get nat_cmp m p.seg ≡ None → now ≡ put_cell now p c
+  put_now_none p c e = sym (ap (put_in now p c) (get_now p.seg ∙ ap items_at e))
+
+  pub live_now : (s : ℕ) → is_some (get now s) ≡ is_some (tree.get nat_cmp m s)
+  live_now s = ap is_some (get_now s) ∙ kept (tree.get nat_cmp m s)
+
+  pub same_now : (n : BTreeMap ℕ (Vec Cell)) → n.entries ≡ m.entries → seen n ≡ now
+  same_now n e = ap (λ es. from_entries (items_of es)) e ∙ is
