@@ -1,0 +1,6 @@
+//! From programs to code.
+#![tactic(auto)]
+
+mod emit;
+
+pub use emit::code_of;

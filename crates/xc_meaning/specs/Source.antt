@@ -1,0 +1,41 @@
+-- Source runs: interleavings of the traces of threads, along which the memory is as it says.
+use Rattle.std.specs.Prelude.{◌≡◌, ℕ, suc, List, [], ◌∷◌, ◌++◌, replicate}
+use Rattle.xc_word.specs.Cells.{fresh}
+use Rattle.xc_word.specs.declared.memory.Cell.{Cell}
+use Rattle.xc_action.specs.World.{World, Request, On, Print, Stop, Tick, Reply, Action, world_of}
+use Rattle.xc_action.specs.Runs.{part_of, Applies}
+use Rattle.xc_meaning.specs.Programs.{Program}
+use Rattle.xc_meaning.specs.Meaning.{Done, called, trace_of}
+
+-- the replies of a trace; a tick asks nothing and has none
+abbrev pub reply_and : Request → Reply → List Reply → List Reply
+reply_and (On x) a rs = a ∷ rs
+reply_and (Print bytes) a rs = a ∷ rs
+reply_and Stop a rs = a ∷ rs
+reply_and Tick a rs = rs
+
+abbrev pub replies_of : List Action → List Reply
+replies_of [] = []
+replies_of (a ∷ t) = reply_and a.request a.reply (replies_of t)
+
+-- this is what main does where its requests get the replies of this trace, cut off anywhere
+abbrev pub IsTrace : Program → List Action → Type 0
+IsTrace p t = (n : ℕ) × (rest : List Action) × (trace_of (called p n (replies_of t)) ≡ t ++ rest)
+
+-- this is what main does to its end
+abbrev pub IsWhole : Program → List Action → Type 0
+IsWhole p t = (n : ℕ) × (called p n (replies_of t) ≡ Done [] t)
+
+-- each global has one cell, full and 0
+abbrev pub first_globals : ℕ → List (List Cell)
+first_globals n = replicate n (fresh ∷ [])
+
+-- thread 0 runs main, and no other thread starts
+pub record SourceRun (p : Program) (l : List (ℕ × Action)) (w : World) : Type 0 where
+  pub applies : Applies p.globals (world_of (first_globals p.globals)) l w
+  pub trace : IsTrace p (part_of 0 l)
+  pub only : (s : ℕ) → part_of (suc s) l ≡ []
+
+-- every thread has ended
+abbrev pub HasEnded : Program → List (ℕ × Action) → Type 0
+HasEnded p l = IsWhole p (part_of 0 l)
