@@ -1,20 +1,19 @@
 -- How the words of a memory change.
-use Rattle.std.proofs.Common.{◌≡◌, ℕ, ◌+◌, Bool, true, false, cond, List, [], ◌∷◌, length, Option, Some, None, refl, sym, ap, ◌∙◌, arith}
+use Rattle.std.proofs.Common.{◌≡◌, ℕ, ◌+◌, false, cond, List, [], ◌∷◌, length, Option, Some, None, refl, sym, ap, ◌∙◌, arith}
 use Rattle.std.specs.Prelude.{slice_set, unwrap_or, replicate, is_some}
 use Rattle.std.specs.List.{sum_by}
-use Rattle.std.specs.Ordering.{nat_cmp, eq_by_cmp, is_eq}
+use Rattle.std.specs.Ordering.{nat_cmp, is_eq}
 use Rattle.std.specs.declared.cmp.Ordering.{Ordering}
 use Rattle.std.specs.declared.cmp.Ordering.TheVariants.{Less, Equal, Greater}
 use Rattle.std.proofs.lemmas.List.Sums.{sum_by-cons}
-use Rattle.std.specs.Cmp.{nat_cmp_total, eq_by_cmp_equiv}
-use Rattle.std.specs.FinMap.{find, put, get, insert, remove, entries, entries-insert, get-entries, get-insert, get-remove, same_map}
+use Rattle.std.specs.Cmp.{nat_cmp_total}
+use Rattle.std.specs.FinMap.{find, put, get, insert, remove, entries, entries-insert, get-entries}
 use Rattle.std.proofs.lemmas.List.{length-set, length-replicate}
-use Rattle.std.proofs.lemmas.Map.Lookups.{exact_unsigned}
 use Rattle.xc_word.specs.declared.memory.Cell.{Cell}
 use Rattle.xc_word.specs.declared.memory.Place.{Place}
 use Rattle.xc_word.specs.Cells.{Segments, put_cell, put_in, fresh}
-use Rattle.xc_word.specs.Table.{left_by}
 use Rattle.xc_word.specs.Total.{total, words_of}
+use Rattle.xc_word.proofs.Maps.{assign-get, assign-assign, get-assign_same}
 
 abbrev words : List (ℕ × List Cell) → ℕ
 words es = sum_by (λ e. length e.1) es
@@ -39,46 +38,14 @@ sum_put : (k : ℕ) (v : List Cell) (es : List (ℕ × List Cell)) → find nat_
 sum_put k v [] h = refl
 sum_put k v (e ∷ es) h = put_step k v e es (put nat_cmp k v es) (nat_cmp k e.0) (sum_put k v es) h
 
-pub total_new : (m : Segments) (s : ℕ) (cells : List Cell) → get m s ≡ None → total (insert m s cells) ≡ total m + length cells
+total_new : (m : Segments) (s : ℕ) (cells : List Cell) → get m s ≡ None → total (insert m s cells) ≡ total m + length cells
 total_new m s cells h = ap (sum_by (λ e. length e.1)) (entries-insert nat_cmp_total m s cells) ∙ sum_put s cells (entries m) (sym (get-entries m s) ∙ h)
 
--- what is at a key but s does not depend on whether s is taken out
-apart : (b c : Bool) (o p : Option (List Cell)) → b ≡ c → cond b o p ≡ cond b o (cond c None p)
-apart true c o p e = refl
-apart false true o p e = absurd cc
-apart false false o p e = refl
+total_set : (m : Segments) (s : ℕ) (cells : List Cell) → total (insert m s cells) ≡ total (remove m s) + length cells
+total_set m s cells = ap total (sym (assign-assign m s None (Some cells))) ∙ total_new (remove m s) s cells (get-assign_same m s None)
 
-back_again : (m : Segments) (s : ℕ) (other : List Cell) → insert m s other ≡ insert (remove m s) s other
-back_again m s other = same_map nat_cmp_total exact_unsigned _ _ (λ q.
-    get-insert nat_cmp_total m s other q
-    ∙ apart (eq_by_cmp nat_cmp q s) (eq_by_cmp nat_cmp q s) (Some other) (get m q) refl
-    ∙ sym (ap (cond (eq_by_cmp nat_cmp q s) (Some other)) (get-remove nat_cmp_total m s q))
-    ∙ sym (get-insert nat_cmp_total (remove m s) s other q))
-
-gone : (m : Segments) (s : ℕ) → get (remove m s) s ≡ None
-gone m s = get-remove nat_cmp_total m s s ∙ rw ((eq_by_cmp_equiv nat_cmp_total).refl s) refl
-
-same_again : (b : Bool) (o : List Cell) (p : Option (List Cell)) → (b ≡ true → p ≡ Some o) → cond b (Some o) p ≡ p
-same_again true o p h = sym (h refl)
-same_again false o p h = refl
-
-is_eq_equal : (o : Ordering) → is_eq o ≡ true → o ≡ Equal
-is_eq_equal Less e = absurd cc
-is_eq_equal Equal e = refl
-is_eq_equal Greater e = absurd cc
-
-same_key : (q s : ℕ) → eq_by_cmp nat_cmp q s ≡ true → q ≡ s
-same_key q s e = exact_unsigned q s (is_eq_equal (nat_cmp q s) e)
-
-kept : (m : Segments) (s : ℕ) (cells : List Cell) → get m s ≡ Some cells → insert m s cells ≡ m
-kept m s cells h = same_map nat_cmp_total exact_unsigned _ _ (λ q.
-    get-insert nat_cmp_total m s cells q ∙ same_again (eq_by_cmp nat_cmp q s) cells (get m q) (λ e. ap (get m) (same_key q s e) ∙ h))
-
-pub total_set : (m : Segments) (s : ℕ) (cells : List Cell) → total (insert m s cells) ≡ total (remove m s) + length cells
-total_set m s cells = ap total (back_again m s cells) ∙ total_new (remove m s) s cells (gone m s)
-
-pub total_gone : (m : Segments) (s : ℕ) (cells : List Cell) → get m s ≡ Some cells → total (remove m s) + length cells ≡ total m
-total_gone m s cells h = sym (total_set m s cells) ∙ ap total (kept m s cells h)
+total_gone : (m : Segments) (s : ℕ) (cells : List Cell) → get m s ≡ Some cells → total (remove m s) + length cells ≡ total m
+total_gone m s cells h = sym (total_set m s cells) ∙ ap total (assign-get m s (Some cells) h)
 
 put_same : (m : Segments) (p : Place) (c : Cell) (o : Option (List Cell)) → get m p.seg ≡ o → total (put_in m p c o) ≡ total m
 put_same m p c None h = refl
@@ -89,27 +56,13 @@ put_same m p c (Some cells) h =
 pub total_put : (m : Segments) (p : Place) (c : Cell) → total (put_cell m p c) ≡ total m
 total_put m p c = put_same m p c (get m p.seg) refl
 
-emptied : (b : Bool) (p : Option (List Cell)) → (b ≡ true → p ≡ None) → cond b None p ≡ p
-emptied true p h = sym (h refl)
-emptied false p h = refl
-
-absent : (m : Segments) (s : ℕ) → get m s ≡ None → remove m s ≡ m
-absent m s h = same_map nat_cmp_total exact_unsigned _ _ (λ q.
-    get-remove nat_cmp_total m s q ∙ emptied (eq_by_cmp nat_cmp q s) (get m q) (λ e. ap (get m) (same_key q s e) ∙ h))
-
 removed_words : (m : Segments) (s : ℕ) (o : Option (List Cell)) → get m s ≡ o → total (remove m s) + length (unwrap_or o []) ≡ total m
-removed_words m s None h = omega (arith, ap total (absent m s h))
+removed_words m s None h = omega (arith, ap total (assign-get m s None h))
 removed_words m s (Some cells) h = total_gone m s cells h
 
 -- taking a segment out takes its words away
 pub total_removed : (m : Segments) (s : ℕ) → total (remove m s) + words_of m s ≡ total m
 total_removed m s = removed_words m s (get m s) refl
-
--- an access leaves the words as many as they were
-pub total_left : (m : Segments) (p : Place) (o : Option (Option (ℕ × Cell))) → total (left_by m p o) ≡ total m
-total_left m p None = refl
-total_left m p (Some None) = refl
-total_left m p (Some (Some x)) = total_put m p x.1
 
 not_live : (o : Option (List Cell)) → is_some o ≡ false → o ≡ None
 not_live None e = refl
