@@ -86,8 +86,18 @@ fn print_value(out: &mut Vec<u8>, value: u64, signed: bool) -> Result<(), AllocE
     }
 }
 
-/// Appends what a format prints of these values, each conversion of the next one. After an `Err` a part may be there.
+/// Appends what a format prints of these values, each conversion of the next one; what is no format prints nothing. After an
+/// `Err` a part may be there.
 pub fn print(out: &mut Vec<u8>, format: &[u8], values: &[u64]) -> Result<(), AllocError>
+    ensures { OnOk result (out.new.items ≡ out.old.items ++ text_of format.now values.now) }
+{
+    if conversions(format).is_none() {
+        return Ok(());
+    }
+    print_pieces(out, format, values)
+}
+
+fn print_pieces(out: &mut Vec<u8>, format: &[u8], values: &[u64]) -> Result<(), AllocError>
     requires { IsSome (pieces_of format.now) }
     ensures { OnOk result (out.new.items ≡ out.old.items ++ text_of format.now values.now) }
 {

@@ -1,13 +1,9 @@
-// A library with one function.
+//! The machine that runs code: for now one slot, with no limit but that on steps.
 #![tactic(auto)]
 
-ghost use Rattle.std.specs.Prelude.{◌≡◌};
-ghost use Rattle.xc_machine.specs.Echo.{echo_of};
+mod machine;
+mod run;
+mod stream;
 
-// The `ensures` clause is the contract: what `echo` returns is `echo_of` of its argument, a definition
-// in `specs/Echo.antt`, which a caller's clause can cite too.
-pub fn echo(x: usize) -> usize
-    ensures { result ≡ echo_of x }
-{
-    x
-}
+pub use machine::{Machine, Stepped};
+pub use run::End;

@@ -1,7 +1,7 @@
 use Rattle.std.proofs.Common.{drop, ◌++◌}
 use Rattle.xc_format.specs.Pieces.{text_of}
 use Rattle.xc_format.proofs.PieceLaws.{Prints}
-use Rattle.xc_format.proofs.print.Given as goal
+use Rattle.xc_format.proofs.print_pieces.Given as goal
 
 -- what has been printed, and what is left
 abbrev pub invariant-loop-byte : goal.invariant-loop-byte
