@@ -1,7 +1,9 @@
 //! Where texts come from.
 ghost use Rattle.std.specs.Prelude.{◌≡◌, ◌+◌, ◌<◌, ◌≤◌, ◌≢◌, ℕ, List, Option, length, vec_len, IfOk, IfSome, IsSome, IsSomeAnd, IsErrOf};
 ghost use Rattle.xc_edge.specs.Counts.{Rises};
+ghost use Rattle.xc_edge.specs.declared.shelf.Fetch.TheVariants.{NoMemory};
 
+use std::alloc::AllocError;
 use thiserror::Error;
 
 /// Why a fetch gave no text.
@@ -16,6 +18,14 @@ pub enum Fetch {
     /// There was no memory for the text.
     #[error("no memory")]
     NoMemory,
+}
+
+impl From<AllocError> for Fetch {
+    ghost from_gives = { λ _ fault. fault ≡ NoMemory };
+
+    fn from(_: AllocError) -> Fetch {
+        Fetch::NoMemory
+    }
 }
 
 /// Named texts that can be fetched.

@@ -23,6 +23,7 @@ pub trait Sink {
         ensures within { IfOk result (λ n. n ≤ length piece.now) }
         ensures progress { IfOk result (λ n. 0 < length piece.now → 0 < n) }
         ensures appends { IfOk result (λ n. written self.new ≡ gained (written self.old) (take n piece.now)) }
+        ensures no_fault { OnOk result (faults self.new ≡ faults self.old) }
         ensures nothing { OnErr result (written self.new ≡ written self.old) }
         ensures failed { OnErr result (Rises 1 (faults self.old) (faults self.new)) }
         ensures faults_kept { faults self.old ≤ faults self.new };
@@ -31,6 +32,7 @@ pub trait Sink {
 /// Puts all of a text, piece after piece, and stops at the first failure.
 pub fn put_all<S: Sink>(sink: &mut S, text: &[u8]) -> Result<(), Failed>
     ensures whole { OnOk result (S.written sink.new ≡ gained (S.written sink.old) text.now) }
+    ensures no_fault { OnOk result (S.faults sink.new ≡ S.faults sink.old) }
     ensures part { OnErr result (SomeIndex text.now (λ n. S.written sink.new ≡ gained (S.written sink.old) (take n text.now))) }
     ensures failed { OnErr result (Rises 1 (S.faults sink.old) (S.faults sink.new)) }
     ensures faults_kept { S.faults sink.old ≤ S.faults sink.new }
