@@ -1,0 +1,10 @@
+//! The narrow texts that the compiler translates today: one global, one assignment of a sum, one `printf` of the global, and at
+//! most a `return` of a number.
+#![tactic(auto)]
+
+mod grammar;
+mod lex;
+mod words;
+
+
+
