@@ -1,0 +1,4 @@
+pub mod History
+pub mod Runs
+pub mod Counter
+pub mod GoesBack
