@@ -6,6 +6,7 @@ use Rattle.std.proofs.lemmas.List.Filters.{length-filter_both}
 use Rattle.std.proofs.lemmas.List.Elements.{filter-append}
 use Rattle.xc_history.specs.History.{of_owner, of_others}
 use Rattle.xc_commute.specs.declared.events.Event.{Event}
+use Rattle.xc_commute.specs.Replay.{thread_of}
 use borrow.Rule.Slice.PartMut.{put_mid, mid_of}
 
 regrouped : {X : Type 0} (A B C D : List X) → (A ++ B) ++ (C ++ D) ≡ A ++ ((B ++ C) ++ D)
@@ -41,17 +42,17 @@ replaced P S Q n hn =
     rw (k_is, hn) (rw (take-append_seam P S, drop-append_seam P S, drop_all (length S) S (omega arith)) (ap (λ l. P ++ l) (append-nil Q)))
 
 abbrev own : ℕ → List Event → List Event
-own owner xs = of_owner (λ e. e.thread) owner xs
+own owner xs = of_owner thread_of owner xs
 
 abbrev rest : ℕ → List Event → List Event
-rest owner xs = of_others (λ e. e.thread) owner xs
+rest owner xs = of_others thread_of owner xs
 
 both_lengths : (owner : ℕ) (xs : List Event) → length (own owner xs) + length (rest owner xs) ≡ length xs
-both_lengths owner xs = length-filter_both (λ e. eqb e.thread owner) (λ e. not (eqb e.thread owner)) (λ _. refl) xs
+both_lengths owner xs = length-filter_both (λ e. eqb (thread_of e) owner) (λ e. not (eqb (thread_of e) owner)) (λ _. refl) xs
 
 -- the parts of two halves, the middle turned, are the parts of the whole
 parted : (owner : ℕ) (xs ys : List Event) → own owner (xs ++ ys) ++ rest owner (xs ++ ys) ≡ (own owner xs ++ own owner ys) ++ (rest owner xs ++ rest owner ys)
-parted owner xs ys = ap₂ (λ a b. a ++ b) (filter-append (λ e. eqb e.thread owner) xs ys) (filter-append (λ e. not (eqb e.thread owner)) xs ys)
+parted owner xs ys = ap₂ (λ a b. a ++ b) (filter-append (λ e. eqb (thread_of e) owner) xs ys) (filter-append (λ e. not (eqb (thread_of e) owner)) xs ys)
 
 -- P is the first half with the owner's events first, Q the second, and the middle of both is turned
 module _ (owner n first second : ℕ) (X P Q : List Event)
@@ -68,7 +69,7 @@ module _ (owner n first second : ℕ) (X P Q : List Event)
 
   pub count_is : second ≡ length (own owner second_part) → first + second ≡ length (own owner X)
   count_is s =
-      let a : length (own owner X) ≡ length (own owner (take n X) ++ own owner (drop n X)) = ap length (ap (own owner) (sym (take-append-drop n X)) ∙ filter-append (λ e. eqb e.thread owner) (take n X) (drop n X)) in
+      let a : length (own owner X) ≡ length (own owner (take n X) ++ own owner (drop n X)) = ap length (ap (own owner) (sym (take-append-drop n X)) ∙ filter-append (λ e. eqb (thread_of e) owner) (take n X) (drop n X)) in
       let b : second ≡ length (own owner (drop n X)) = s ∙ ap (λ l. length (own owner l)) Y_is in
       omega (arith, a, b, first_is, length-append (own owner (take n X)) (own owner (drop n X)))
 

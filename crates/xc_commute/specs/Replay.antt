@@ -1,9 +1,9 @@
 -- Events replayed in the order of time.
-use Rattle.std.specs.Prelude.{ℕ, Option, List, ◌++◌}
+use Rattle.std.specs.Prelude.{◌≡◌, ◌≢◌, ℕ, Option, List, map}
 use Rattle.xc_word.specs.Cells.{Segments}
-use Rattle.xc_history.specs.History.{play, of_owner, of_others}
+use Rattle.xc_history.specs.History.{play}
 use Rattle.xc_commute.specs.declared.events.Event.{Event}
-use Rattle.xc_commute.specs.Touch.{On, touched}
+use Rattle.xc_commute.specs.Touch.{On, touched, Conflict}
 
 -- an event with the answer that was recorded
 abbrev pub Answered : Type 0
@@ -18,9 +18,17 @@ abbrev pub replay : List Answered → Segments → Option Segments
 replay xs m = play step_of xs m
 
 -- the thread of an event
-abbrev pub thread_of : Answered → ℕ
-thread_of x = x.0.thread
+abbrev pub thread_of : Event → ℕ
+thread_of e = e.thread
 
--- the events of a thread, and then those of the others
-abbrev pub gathered : ℕ → List Answered → List Answered
-gathered owner run = of_owner thread_of owner run ++ of_others thread_of owner run
+-- the events of a run without their answers
+abbrev pub events_of : List Answered → List Event
+events_of run = map (λ x. x.0) run
+
+-- two events that may be swapped where they stand side by side: of different threads, and not in conflict
+abbrev pub CanSwap : Event → Event → Type 0
+CanSwap a b = (a.thread ≢ b.thread) × (¬ Conflict (On a.act) (On b.act))
+
+-- whatever was answered, with these events in another order each may be answered as it was, and the memory afterwards is the same, from each memory at the start
+abbrev pub Keeps : (List Answered → List Answered) → List Event → List Event → Type 0
+Keeps turned old new = (run : List Answered) → events_of run ≡ old → (events_of (turned run) ≡ new) × ((m : Segments) → replay (turned run) m ≡ replay run m)

@@ -1,10 +1,9 @@
 //! A record of accesses in the order in which they were made.
 
-ghost use Rattle.std.specs.Prelude.{◌≡◌, ◌≢◌, ◌<◌, ◌+◌, ◌++◌, ◌↔◌, ℕ, List, Some, IsTrue, map, swap, length, slice_get};
-ghost use Rattle.xc_word.specs.Cells.{Segments};
-ghost use Rattle.xc_history.specs.History.{of_owner, of_others};
+ghost use Rattle.std.specs.Prelude.{◌≡◌, ◌≢◌, ◌<◌, ◌+◌, ◌↔◌, ℕ, Some, IsTrue, swap, length, slice_get};
+ghost use Rattle.xc_history.specs.History.{of_owner, gathered};
 ghost use Rattle.xc_commute.specs.Touch.{On, Conflict, is_read};
-ghost use Rattle.xc_commute.specs.Replay.{Answered, replay, gathered};
+ghost use Rattle.xc_commute.specs.Replay.{thread_of, CanSwap, Keeps};
 
 use xc_word::{Access, Kind};
 
@@ -32,19 +31,18 @@ pub fn conflict(a: &Access, b: &Access) -> bool
 /// Exchanges events k and k + 1. It takes no memory of the host.
 pub fn swap(events: &mut [Event], k: usize)
     requires within { k + 1 < length events.old }
-    requires free { (a b : Event) → slice_get events.old k ≡ Some a → slice_get events.old (k + 1) ≡ Some b → (a.thread ≢ b.thread) × (¬ Conflict (On a.act) (On b.act)) }
+    requires free { (a b : Event) → slice_get events.old k ≡ Some a → slice_get events.old (k + 1) ≡ Some b
+        → CanSwap a b }
     ensures after { events.new ≡ swap events.old k (k + 1) }
-
-    // Whatever was answered, from each memory the same answers can be given, and leave the same memory.
-    ensures kept { (run : List Answered) → map (λ x. x.0) run ≡ events.old → (map (λ x. x.0) (swap run k (k + 1)) ≡ events.new) × ((m : Segments) → replay (swap run k (k + 1)) m ≡ replay run m) }
+    ensures kept { Keeps (λ run. swap run k (k + 1)) events.old events.new }
 {
     events.swap(k, k + 1);
 }
 
 /// Moves the events of owner to the front, in their order, and answers how many they are.
 fn part(events: &mut [Event], owner: u32) -> usize
-    ensures order { events.new ≡ of_owner (λ e. e.thread) owner events.old ++ of_others (λ e. e.thread) owner events.old }
-    ensures count { result ≡ length (of_owner (λ e. e.thread) owner events.old) }
+    ensures order { events.new ≡ gathered thread_of owner events.old }
+    ensures count { result ≡ length (of_owner thread_of owner events.old) }
 {
     if events.len() < 2 {
         return if events.len() == 1 && events[0].thread == owner {
@@ -62,11 +60,10 @@ fn part(events: &mut [Event], owner: u32) -> usize
 
 /// Moves the events of owner to the front, in their order. It takes no memory of the host.
 pub fn gather(events: &mut [Event], owner: u32)
-    requires { (j k : ℕ) (a b : Event) → j < k → slice_get events.old j ≡ Some a → slice_get events.old k ≡ Some b → a.thread ≢ owner → b.thread ≡ owner → ¬ Conflict (On a.act) (On b.act) }
-    ensures after { events.new ≡ of_owner (λ e. e.thread) owner events.old ++ of_others (λ e. e.thread) owner events.old }
-
-    // Whatever was answered, from each memory the same answers can be given, and leave the same memory.
-    ensures kept { (run : List Answered) → map (λ x. x.0) run ≡ events.old → (map (λ x. x.0) (gathered owner run) ≡ events.new) × ((m : Segments) → replay (gathered owner run) m ≡ replay run m) }
+    requires { (j k : ℕ) (a b : Event) → j < k → slice_get events.old j ≡ Some a → slice_get events.old k ≡ Some b
+        → a.thread ≢ owner → b.thread ≡ owner → CanSwap a b }
+    ensures after { events.new ≡ gathered thread_of owner events.old }
+    ensures kept { Keeps (gathered (λ x. thread_of x.0) owner) events.old events.new }
 {
     part(events, owner);
 }

@@ -5,7 +5,7 @@ mod events;
 mod threads;
 
 pub use events::{Event, conflict, gather, swap};
-pub use threads::{Threads, team_runs_go_back};
+pub use threads::{MemoryThreads, memory_teams_go_back};
 
 #[cfg(test)]
 mod tests;

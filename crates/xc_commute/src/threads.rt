@@ -6,14 +6,14 @@ ghost use Rattle.xc_history.specs.GoesBack.{GoesBack};
 ghost use Rattle.xc_commute.specs.Threads.{Deed, State, IsTrap, IsQuiet, ActsOnMemory};
 
 /// A program, by its relations alone, and the cells of each loop at the memory of its Enter.
-pub trait Threads {
+pub trait MemoryThreads {
     ghost program: { Program Deed Segments State };
 
     ghost cells: { State → Segments → Deed → Type 0 };
 }
 
 /// Every team run of a quiet program goes back to a source run, if each of its loops by itself does what its serial trace does.
-pub fn team_runs_go_back<P: Threads>()
+pub fn memory_teams_go_back<P: MemoryThreads>()
     requires memory { ActsOnMemory P.program }
     requires quiet { IsQuiet P.program P.cells }
     requires each_loop { OneLoop P.program P.cells IsTrap }

@@ -58,7 +58,7 @@ module _ {A M : Type 0} (step : A → M → Option M) where
   weaken y [] e = tt
   weaken y (x ∷ xs) e = (e.0.0, weaken y xs e.1)
 
-  commuting : (ys xs : List A) → Each (λ y. Each (λ x. Apart step y x × Both step y x) xs) ys → Each (λ y. Each (λ x. Apart step y x) xs) ys
+  pub commuting : (ys xs : List A) → Each (λ y. Each (λ x. Apart step y x × Both step y x) xs) ys → Each (λ y. Each (λ x. Apart step y x) xs) ys
   commuting [] xs e = tt
   commuting (y ∷ ys) xs e = (weaken y xs e.0, commuting ys xs e.1)
 

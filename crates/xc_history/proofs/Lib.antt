@@ -9,3 +9,4 @@ pub mod SourceRuns
 pub mod LetterPTraps
 pub mod Places
 pub mod GoesBackProof
+pub mod Fills

@@ -28,6 +28,10 @@ of_owner who i xs = filter (λ x. nat_eq (who x) i) xs
 abbrev pub of_others : {A : Type 0} → (A → ℕ) → ℕ → List A → List A
 of_others who i xs = filter (λ x. not (nat_eq (who x) i)) xs
 
+-- the actions of an owner, and then those of the others
+abbrev pub gathered : {A : Type 0} → (A → ℕ) → ℕ → List A → List A
+gathered who i xs = of_owner who i xs ++ of_others who i xs
+
 -- there is a memory: the action or the history is possible
 abbrev pub Is : {M : Type 0} → Option M → Type 0
 Is {M} o = (k : M) × (o ≡ Some k)

@@ -3,10 +3,9 @@
 #![tactic(auto)]
 
 mod theorem;
+mod two_fills;
 mod waits;
 
 pub use theorem::{Threads, team_runs_go_back};
+pub use two_fills::{TwoFills, two_fills_go_back};
 pub use waits::waits_for_a_loop_that_traps;
-
-#[cfg(test)]
-mod tests;
