@@ -29,6 +29,8 @@ events_of run = map (λ x. x.0) run
 abbrev pub CanSwap : Event → Event → Type 0
 CanSwap a b = (a.thread ≢ b.thread) × (¬ Conflict (On a.act) (On b.act))
 
--- whatever was answered, with these events in another order each may be answered as it was, and the memory afterwards is the same, from each memory at the start
+-- whatever was answered: with the events in their new order each may be answered as it was, and from each memory at the start
+-- the memory afterwards is the same
 abbrev pub Keeps : (List Answered → List Answered) → List Event → List Event → Type 0
-Keeps turned old new = (run : List Answered) → events_of run ≡ old → (events_of (turned run) ≡ new) × ((m : Segments) → replay (turned run) m ≡ replay run m)
+Keeps turned old new = (run : List Answered) → events_of run ≡ old →
+    (events_of (turned run) ≡ new) × ((m : Segments) → replay (turned run) m ≡ replay run m)

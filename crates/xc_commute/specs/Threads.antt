@@ -16,6 +16,7 @@ after_deed (Touches t answer) m = touched (t, answer) m
 after_deed (Marks n) m = Some m
 after_deed Traps m = Some m
 
+-- it is a trap
 abbrev pub IsTrap : Deed → Type 0
 IsTrap Traps = Unit {0}
 IsTrap _ = ⊥
@@ -29,11 +30,15 @@ DeedsConflict _ _ = ⊥
 abbrev pub State : Type 0
 State = ℕ × List Deed
 
--- In every source run, while a thread stands at the Enter of a loop, what another thread does next, also where it waits, does not conflict with the loop's cells,
--- nor do the cells of a loop at whose Enter another thread stands
+-- In every source run, while a thread stands at the Enter of a loop, what another thread does next, also where it waits, does not conflict
+-- with the loop's cells, nor do the cells of a loop at whose Enter another thread stands
 pub record IsQuiet (p : Program Deed Segments State) (Cells : State → Segments → Deed → Type 0) : Type 0 where
-  pub next : (h : List (ℕ × Deed)) (s : ℕ → Stand State Segments) (m : Segments) → Source p h s m → (u v : ℕ) (t n : State) (a c : Deed) → CellsAt Cells (s u) c → s v ≡ Free t → p.Allowed (λ w. erase (s w)) v a → p.can t a n → ¬ DeedsConflict a c
-  pub cells : (h : List (ℕ × Deed)) (s : ℕ → Stand State Segments) (m : Segments) → Source p h s m → (u v : ℕ) (c d : Deed) → u ≢ v → CellsAt Cells (s u) c → CellsAt Cells (s v) d → ¬ DeedsConflict c d
+  pub next : (h : List (ℕ × Deed)) (s : ℕ → Stand State Segments) (m : Segments) → Source p h s m →
+      (u v : ℕ) (t n : State) (a c : Deed) → CellsAt Cells (s u) c → s v ≡ Free t → p.Allowed (λ w. erase (s w)) v a → p.can t a n →
+      ¬ DeedsConflict a c
+  pub cells : (h : List (ℕ × Deed)) (s : ℕ → Stand State Segments) (m : Segments) → Source p h s m →
+      (u v : ℕ) (c d : Deed) → u ≢ v → CellsAt Cells (s u) c → CellsAt Cells (s v) d →
+      ¬ DeedsConflict c d
 
 -- its deeds act on memory as they do here
 abbrev pub ActsOnMemory : Program Deed Segments State → Type 0

@@ -40,6 +40,7 @@ is_read ReadXx = true
 is_read ReadFf = true
 is_read _ = false
 
+-- a touch that leaves every cell as it was
 abbrev pub IsRead : Touch → Type 0
 IsRead (On act) = IsTrue (is_read act.kind)
 IsRead (NewSegment seg cells) = ⊥

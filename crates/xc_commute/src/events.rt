@@ -31,7 +31,8 @@ pub fn conflict(a: &Access, b: &Access) -> bool
 /// Exchanges events k and k + 1. It takes no memory of the host.
 pub fn swap(events: &mut [Event], k: usize)
     requires within { k + 1 < length events.old }
-    requires free { (a b : Event) → slice_get events.old k ≡ Some a → slice_get events.old (k + 1) ≡ Some b
+    requires free { (a b : Event)
+        → slice_get events.old k ≡ Some a → slice_get events.old (k + 1) ≡ Some b
         → CanSwap a b }
     ensures after { events.new ≡ swap events.old k (k + 1) }
     ensures kept { Keeps (λ run. swap run k (k + 1)) events.old events.new }
@@ -60,7 +61,8 @@ fn part(events: &mut [Event], owner: u32) -> usize
 
 /// Moves the events of owner to the front, in their order. It takes no memory of the host.
 pub fn gather(events: &mut [Event], owner: u32)
-    requires { (j k : ℕ) (a b : Event) → j < k → slice_get events.old j ≡ Some a → slice_get events.old k ≡ Some b
+    requires { (j k : ℕ) (a b : Event)
+        → j < k → slice_get events.old j ≡ Some a → slice_get events.old k ≡ Some b
         → a.thread ≢ owner → b.thread ≡ owner → CanSwap a b }
     ensures after { events.new ≡ gathered thread_of owner events.old }
     ensures kept { Keeps (gathered (λ x. thread_of x.0) owner) events.old events.new }

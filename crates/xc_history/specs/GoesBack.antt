@@ -16,10 +16,16 @@ SomeTrap {A} {M} {S} p Traps = (h : List (ℕ × A)) × (s : ℕ → Stand S M) 
 -- each team run has a source run
 pub record GoesBack {A M S : Type 0} (p : Program A M S) (Traps : A → Type 0) : Type 0 where
   -- whatever it has done
-  pub so_far : (r : ℕ → Does S) (q v : List (ℕ × A)) (m : M) → TeamRun p r q v m → (h : List (ℕ × A)) × (s : ℕ → Stand S M) × (k : M) × IsSourceOf p r v h s k
+  pub so_far : (r : ℕ → Does S) (q v : List (ℕ × A)) (m : M) → TeamRun p r q v m →
+      (h : List (ℕ × A)) × (s : ℕ → Stand S M) × (k : M) × IsSourceOf p r v h s k
   -- with the same memory, where no loop is open, as at its end
-  pub closed : (r : ℕ → Does S) (q v : List (ℕ × A)) (m : M) → TeamRun p r q v m → ((u : ℕ) → (t : S) × (r u ≡ Plain t)) → (h : List (ℕ × A)) × (s : ℕ → Stand S M) × IsSourceOf p r v h s m
+  pub closed : (r : ℕ → Does S) (q v : List (ℕ × A)) (m : M) → TeamRun p r q v m → ((u : ℕ) → (t : S) × (r u ≡ Plain t)) →
+      (h : List (ℕ × A)) × (s : ℕ → Stand S M) × IsSourceOf p r v h s m
   -- that traps, where a member of a loop traps next
-  pub member_traps : (r : ℕ → Does S) (q v : List (ℕ × A)) (m k : M) → TeamRun p r q v m → (u : ℕ) (t : S) (a : A) → r u ≡ In t → p.Team t (a ∷ acts (of_owner owner u q)) → Traps a → p.step a m ≡ Some k → SomeTrap p Traps
+  pub member_traps : (r : ℕ → Does S) (q v : List (ℕ × A)) (m k : M) → TeamRun p r q v m →
+      (u : ℕ) (t : S) (a : A) → r u ≡ In t → p.Team t (a ∷ acts (of_owner owner u q)) → Traps a → p.step a m ≡ Some k →
+      SomeTrap p Traps
   -- and where a thread that is in no loop does
-  pub other_traps : (r : ℕ → Does S) (q v : List (ℕ × A)) (m k : M) → TeamRun p r q v m → (u : ℕ) (t n : S) (a : A) → r u ≡ Plain t → p.Allowed r u a → p.can t a n → Traps a → p.step a m ≡ Some k → SomeTrap p Traps
+  pub other_traps : (r : ℕ → Does S) (q v : List (ℕ × A)) (m k : M) → TeamRun p r q v m →
+      (u : ℕ) (t n : S) (a : A) → r u ≡ Plain t → p.Allowed r u a → p.can t a n → Traps a → p.step a m ≡ Some k →
+      SomeTrap p Traps
