@@ -1,0 +1,4 @@
+pub mod StreamLemmas
+pub mod BitLemmas
+pub mod ReadyLemmas
+pub mod RunLemmas

@@ -1,0 +1,5 @@
+pub mod Streams
+pub mod Bits
+pub mod Choices
+pub mod Runs
+pub mod Kept
