@@ -1,11 +1,9 @@
 -- Flags in the bits of words.
-use Rattle.std.proofs.Common.{◌≡◌, ◌≢◌, ℕ, zero, suc, ◌+◌, ◌-◌, ◌*◌, ◌/◌, ◌%◌, ◌^◌, ◌<◌, ◌≤◌, inl, inr, not, Bool, true, false, cond, eqb, ltb, leb, lit<, get_or, List, [], ◌∷◌, ◌++◌, length, take, drop, map, set, Option, Some, None, refl, sym, ap, subst, ◌∙◌, arith}
-use Rattle.std.specs.Prelude.{slice_get, sum_by, find, replicate, bit_and, bit_xor}
-use Rattle.std.specs.List.{flat_map}
+use Rattle.std.proofs.Common.{◌≡◌, ◌≢◌, ℕ, zero, suc, ◌+◌, ◌-◌, ◌*◌, ◌/◌, ◌%◌, ◌^◌, ◌<◌, ◌≤◌, inl, inr, not, Bool, false, eqb, lit<, get_or, List, [], ◌∷◌, ◌++◌, length, drop, set, Some, refl, sym, ap, ◌∙◌, arith}
+use Rattle.std.specs.Prelude.{slice_get, sum_by, bit_and, bit_xor}
 use Rattle.std.specs.Int.{bit_at}
 use Rattle.std.specs.Int.RustNames.{count_ones}
 use Rattle.std.proofs.lemmas.Bool.{cases_lt, cases_eq}
-use Rattle.std.proofs.lemmas.Bool.Decides.{nat_tests}
 use Rattle.std.proofs.lemmas.List.{ext_get_or, length-append, length-set, get_or_append_left, get_or-append_right, get_or-set_other, get_or-set_same, drop_more}
 use Rattle.std.specs.Int.Bits.{and_self}
 use Rattle.std.proofs.lemmas.List.Sums.{sum_by-cons}
@@ -15,8 +13,8 @@ use Rattle.std.proofs.lemmas.Nat.Bits.{bit_at_lowest, bit_at-suc, bit_at_xor, bi
 use Rattle.std.specs.Int.Count.{count_trailing_zeros, under}
 use lib.Count.{ones_step}
 use native.Mathlib.Nat.{pow-suc}
-use Rattle.xc_sched.specs.Streams.{streams_from, streams_of}
-use Rattle.xc_sched.specs.Bits.{flags_below, word_flags, flags_of, IsKept}
+use Rattle.xc_sched.specs.Streams.{streams_from}
+use Rattle.xc_sched.specs.Bits.{flags_below, word_flags, flags_of}
 use Rattle.xc_sched.proofs.StreamLemmas.{one, length-streams_from, streams_from-append}
 
 -- ---- the flags of a word
@@ -113,12 +111,12 @@ flags_of-flip ws s h =
     ext_get_or false (flags_of new) (set (flags_of ws) s (not (get_or (flags_of ws) s false)))
     (omega (arith, total, length-set (flags_of ws) s (not (get_or (flags_of ws) s false)), room))
     (λ i k.
-      let fits : i < 64 * length ws = omega (arith, total, k) in
-      flags_of-at new i (omega (arith, len, fits)) ∙
-      elim (cases_eq i s) [
-        | inl e ↦ ap (λ x. at_bit new (x / 64) (x % 64)) e ∙ flip_at_same ws s h ∙ sym (ap (λ x. get_or (set (flags_of ws) s (not (get_or (flags_of ws) s false))) x false) e ∙ get_or-set_same (flags_of ws) s _ false (omega (arith, room, h)))
-        | inr ne ↦ flip_at_other ws s i h fits ne ∙ sym (get_or-set_other (flags_of ws) s i _ false ne)
-      ])
+    let fits : i < 64 * length ws = omega (arith, total, k) in
+    flags_of-at new i (omega (arith, len, fits)) ∙
+    elim (cases_eq i s) [
+      | inl e ↦ ap (λ x. at_bit new (x / 64) (x % 64)) e ∙ flip_at_same ws s h ∙ sym (ap (λ x. get_or (set (flags_of ws) s (not (get_or (flags_of ws) s false))) x false) e ∙ get_or-set_same (flags_of ws) s _ false (omega (arith, room, h)))
+      | inr ne ↦ flip_at_other ws s i h fits ne ∙ sym (get_or-set_other (flags_of ws) s i _ false ne)
+    ])
 
 -- ---- the set bits of a word
 

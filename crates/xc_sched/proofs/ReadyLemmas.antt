@@ -1,10 +1,10 @@
 -- Words that keep the flags of streams.
-use Rattle.std.proofs.Common.{◌≡◌, ℕ, zero, suc, ◌+◌, ◌-◌, ◌*◌, ◌/◌, ◌%◌, ◌^◌, ◌<◌, ◌≤◌, inl, inr, not, Bool, true, false, cond, get_or, List, [], ◌∷◌, ◌++◌, length, take, drop, map, set, Option, Some, None, refl, sym, ap, subst, ◌∙◌, arith}
+use Rattle.std.proofs.Common.{◌≡◌, ℕ, zero, suc, ◌+◌, ◌-◌, ◌*◌, ◌/◌, ◌%◌, ◌^◌, ◌<◌, ◌≤◌, inl, inr, not, Bool, true, false, get_or, List, [], ◌∷◌, ◌++◌, length, take, drop, set, Some, None, refl, sym, ap, subst, ◌∙◌, arith}
 use Rattle.std.specs.Prelude.{slice_get, replicate, bit_and}
 use Rattle.std.specs.Option.{option_map}
 use Rattle.std.specs.Int.RustNames.{count_ones}
 use Rattle.std.specs.Int.Count.{count_trailing_zeros}
-use Rattle.std.proofs.lemmas.List.{append-nil, drop-set-lt, drop-append-le, drop_all, length-replicate, length-drop, length-set, length-take, replicate-append-replicate, take-replicate}
+use Rattle.std.proofs.lemmas.List.{drop-set-lt, drop-append-le, drop_all, length-replicate, length-drop, length-set, length-take, replicate-append-replicate, take-replicate}
 use Rattle.std.proofs.lemmas.Option.{slice_get-map}
 use Rattle.std.proofs.Math.Seq.{take-set-lt, drop-append_seam, drop-append-add}
 use Rattle.std.proofs.Math.Nat.{le_refl, lt_of_le_of_lt}
@@ -15,16 +15,16 @@ use Rattle.std.proofs.lemmas.Nat.Bits.{bit_at-trailing_zeros, bit_at_above}
 use Rattle.std.specs.Int.{w64}
 use lib.Pow.{shr_lt}
 use Rattle.xc_sched.specs.Streams.{streams_from, streams_of, lowest_from}
-use Rattle.xc_sched.specs.Bits.{flags_below, word_flags, flags_of, IsKept}
-use Rattle.xc_sched.proofs.StreamLemmas.{one, length-streams-set, length-streams_from, streams_from-add, streams_from-append, streams_from-replicate, streams_of-take, get-append_left, get-append_right, lowest_is, lowest_below}
+use Rattle.xc_sched.specs.Bits.{flags_below, word_flags, flags_of, KeepsFlags}
+use Rattle.xc_sched.proofs.StreamLemmas.{one, length-streams-set, streams_from-add, streams_from-append, streams_from-replicate, streams_of-take, get-append_left, get-append_right, lowest_is, lowest_below}
 use Rattle.xc_sched.proofs.BitLemmas.{length-flags_below, length-flags_of, flags_of-cons, flags_of-drop, flags_of-flip, flipped, length-word, lowest_bit, flags_below-shr, streams_of_words, without_lowest}
 
 -- ---- what is kept
 
-pub kept_same : (n k : ℕ) (ws : List ℕ) → IsKept n k ws → streams_of (take n (flags_of ws)) ≡ streams_of (flags_of ws)
+pub kept_same : (n k : ℕ) (ws : List ℕ) → KeepsFlags n k ws → streams_of (take n (flags_of ws)) ≡ streams_of (flags_of ws)
 kept_same n k ws h = streams_of-take n (flags_of ws) (omega (arith, h.room, length-flags_of ws)) h.above
 
-pub kept_count : (n k : ℕ) (ws : List ℕ) → IsKept n k ws → length (streams_of (take n (flags_of ws))) ≡ k
+pub kept_count : (n k : ℕ) (ws : List ℕ) → KeepsFlags n k ws → length (streams_of (take n (flags_of ws))) ≡ k
 kept_count n k ws h = ap length (kept_same n k ws h) ∙ h.counted
 
 streams_few : (s : ℕ) (flags : List Bool) → length (streams_from s flags) ≤ length flags
@@ -37,7 +37,7 @@ streams_few s (false ∷ flags) = let h = streams_few (suc s) flags in omega ari
 abbrev pub turned : List ℕ → ℕ → List ℕ
 turned ws s = set ws (s / 64) (flipped (get_or ws (s / 64) 0) (s % 64))
 
-turned_is : (n k s : ℕ) (ws : List ℕ) (b : Bool) → IsKept n k ws → s < n → get_or (flags_of ws) s false ≡ not b → flags_of (turned ws s) ≡ set (flags_of ws) s b
+turned_is : (n k s : ℕ) (ws : List ℕ) (b : Bool) → KeepsFlags n k ws → s < n → get_or (flags_of ws) s false ≡ not b → flags_of (turned ws s) ≡ set (flags_of ws) s b
 turned_is n k s ws b h lt flag =
     flags_of-flip ws s (omega (arith, h.room, lt)) ∙ ap (λ x. set (flags_of ws) s (not x)) flag ∙ ap (set (flags_of ws) s) (twice b)
   where
@@ -45,16 +45,16 @@ turned_is n k s ws b h lt flag =
     twice true = refl
     twice false = refl
 
-pub view_turned : (n k s : ℕ) (ws : List ℕ) (b : Bool) → IsKept n k ws → s < n → get_or (flags_of ws) s false ≡ not b → take n (flags_of (turned ws s)) ≡ set (take n (flags_of ws)) s b
+pub view_turned : (n k s : ℕ) (ws : List ℕ) (b : Bool) → KeepsFlags n k ws → s < n → get_or (flags_of ws) s false ≡ not b → take n (flags_of (turned ws s)) ≡ set (take n (flags_of ws)) s b
 view_turned n k s ws b h lt flag = ap (take n) (turned_is n k s ws b h lt flag) ∙ take-set-lt n (flags_of ws) s b lt
 
-counted : (n k s : ℕ) (ws : List ℕ) (b : Bool) → IsKept n k ws → s < n → get_or (flags_of ws) s false ≡ not b → length (streams_of (flags_of (turned ws s))) + one (not b) ≡ k + one b
+counted : (n k s : ℕ) (ws : List ℕ) (b : Bool) → KeepsFlags n k ws → s < n → get_or (flags_of ws) s false ≡ not b → length (streams_of (flags_of (turned ws s))) + one (not b) ≡ k + one b
 counted n k s ws b h lt flag =
     let within : s < length (flags_of ws) = omega (arith, h.room, length-flags_of ws) in
     let e = length-streams-set (flags_of ws) s b within in
     omega (arith, e, h.counted, ap one flag, ap (λ x. length (streams_of x)) (turned_is n k s ws b h lt flag))
 
-pub kept_turned : (n k m s : ℕ) (ws : List ℕ) (b : Bool) → IsKept n k ws → s < n → get_or (flags_of ws) s false ≡ not b → m + one (not b) ≡ k + one b → IsKept n m (turned ws s)
+pub kept_turned : (n k m s : ℕ) (ws : List ℕ) (b : Bool) → KeepsFlags n k ws → s < n → get_or (flags_of ws) s false ≡ not b → m + one (not b) ≡ k + one b → KeepsFlags n m (turned ws s)
 kept_turned n k m s ws b h lt flag count =
     let len : length (turned ws s) ≡ length ws = length-set ws (s / 64) _ in
     record {
@@ -81,14 +81,14 @@ other false true e = refl
 other false false e = absurd cc
 
 -- a stream that is not ready leaves room in the count
-pub count_room : (n k s : ℕ) (ws : List ℕ) → IsKept n k ws → s < n → get_or (flags_of ws) s false ≡ false → k + 1 ≤ n
+pub count_room : (n k s : ℕ) (ws : List ℕ) → KeepsFlags n k ws → s < n → get_or (flags_of ws) s false ≡ false → k + 1 ≤ n
 count_room n k s ws h lt flag =
     let kept = kept_turned n k (k + 1) s ws true h lt flag (omega arith) in
     let few = streams_few 0 (take n (flags_of (turned ws s))) in
     omega (arith, few, kept_count n (k + 1) (turned ws s) kept, length-take n (flags_of (turned ws s)))
 
 -- and one that is ready counts
-pub count_some : (n k s : ℕ) (ws : List ℕ) → IsKept n k ws → s < n → get_or (flags_of ws) s false ≡ true → 1 ≤ k
+pub count_some : (n k s : ℕ) (ws : List ℕ) → KeepsFlags n k ws → s < n → get_or (flags_of ws) s false ≡ true → 1 ≤ k
 count_some n k s ws h lt flag = omega (arith, counted n k s ws false h lt flag)
 
 -- ---- no stream is ready
@@ -111,7 +111,7 @@ view_zero n m h = ap (take n) (flags_of-zero m) ∙ take-replicate n (64 * m) fa
 after_front : (xs ys : List Bool) (n : ℕ) → length xs ≡ n → drop n (xs ++ ys) ≡ ys
 after_front xs ys n e = ap (λ k. drop k (xs ++ ys)) (sym e) ∙ drop-append_seam xs ys
 
-pub kept_zero : (n m : ℕ) → n < 2 ^ 32 → n ≤ 64 * m → 64 * m ≤ 2 ^ 32 → IsKept n 0 (replicate m 0)
+pub kept_zero : (n m : ℕ) → n < 2 ^ 32 → n ≤ 64 * m → 64 * m ≤ 2 ^ 32 → KeepsFlags n 0 (replicate m 0)
 kept_zero n m few h small =
     let len : length {A = ℕ} (replicate m 0) ≡ m = length-replicate m 0 in
     let back : n + (64 * m - n) ≡ 64 * m = omega arith in
@@ -120,8 +120,8 @@ kept_zero n m few h small =
       few = few;
       small = omega (arith, len);
       above =
-        ap (λ x. streams_from n (drop n x)) (flags_of-zero m ∙ ap (λ k. replicate k false) (sym back) ∙ sym (replicate-append-replicate n (64 * m - n) false))
-        ∙ ap (streams_from n) (after_front (replicate n false) (replicate (64 * m - n) false) n (length-replicate n false)) ∙ streams_from-replicate n (64 * m - n);
+          ap (λ x. streams_from n (drop n x)) (flags_of-zero m ∙ ap (λ k. replicate k false) (sym back) ∙ sym (replicate-append-replicate n (64 * m - n) false))
+          ∙ ap (streams_from n) (after_front (replicate n false) (replicate (64 * m - n) false) n (length-replicate n false)) ∙ streams_from-replicate n (64 * m - n);
       counted = ap (λ x. length (streams_of x)) (flags_of-zero m) ∙ ap length (streams_from-replicate 0 (64 * m));
     }
 
@@ -141,7 +141,7 @@ one_less w k some fits few =
     let rest : streams_of (word_flags (bit_and w (w - 1))) ≡ drop 1 (streams_of (word_flags w)) = without_lowest 64 w 0 there fits in
     let small : bit_and w (w - 1) < 2 ^ 64 = lt_of_le_of_lt (and_le_l w (w - 1)) fits in (
       ap (λ (x : List ℕ). slice_get x (k - 1)) rest ∙ get_rest (streams_of (word_flags w)) k some,
-      omega (arith, length-word 0 w fits, length-word 0 (bit_and w (w - 1)) small, ap length rest, length-drop 1 (streams_of (word_flags w)))
+      omega (arith, length-word 0 w fits, length-word 0 (bit_and w (w - 1)) small, ap length rest, length-drop 1 (streams_of (word_flags w))),
     )
 
 -- the lowest bit
@@ -171,10 +171,6 @@ nth_past i left ws h fits many =
     let len = length-word (64 * i) w fits in
     ap (λ (s : List ℕ). slice_get s left) (streams_of_words i ws h) ∙ get-append_right (streams_from (64 * i) (word_flags w)) (streams_from (64 * (i + 1)) (flags_of (drop (i + 1) ws))) left (omega (arith, len, many))
     ∙ ap (λ k. slice_get (streams_from (64 * (i + 1)) (flags_of (drop (i + 1) ws))) (left - k)) len
-
--- past all words
-pub none_past : (i s left : ℕ) (ws : List ℕ) → length ws ≤ i → slice_get (streams_from s (flags_of (drop i ws))) left ≡ None
-none_past i s left ws h = ap (λ (x : List ℕ). slice_get (streams_from s (flags_of x)) left) (drop_all i ws h)
 
 -- ---- the lowest ready stream from one on
 
@@ -219,8 +215,8 @@ flags_from s ws h =
     let low : r ≤ length (word_flags w) = omega (arith, length-flags_below 64 w) in
     let next : s + length (flags_below (64 - r) (w / 2 ^ r)) ≡ 64 * (q + 1) = omega (arith, length-flags_below (64 - r) (w / 2 ^ r)) in
     ap (streams_from s) (
-      ap (λ k. drop k (flags_of ws)) place ∙ drop-flags q r ws ∙ ap (drop r) (flags_of-drop q ws h) ∙ drop-append-le r (word_flags w) (flags_of (drop (q + 1) ws)) low
-      ∙ ap (λ (x : List Bool). x ++ flags_of (drop (q + 1) ws)) (sym high)
+    ap (λ k. drop k (flags_of ws)) place ∙ drop-flags q r ws ∙ ap (drop r) (flags_of-drop q ws h) ∙ drop-append-le r (word_flags w) (flags_of (drop (q + 1) ws)) low
+    ∙ ap (λ (x : List Bool). x ++ flags_of (drop (q + 1) ws)) (sym high)
     )
     ∙ streams_from-append s (flags_below (64 - r) (w / 2 ^ r)) (flags_of (drop (q + 1) ws))
     ∙ ap (λ k. streams_from s (flags_below (64 - r) (w / 2 ^ r)) ++ streams_from k (flags_of (drop (q + 1) ws))) next
@@ -260,7 +256,7 @@ lowest_low s ws h none =
 
 -- ---- the same for the streams
 
-pub kept_lowest : (n k s : ℕ) (ws : List ℕ) → IsKept n k ws → lowest_from s (streams_of (flags_of ws)) ≡ lowest_from s (streams_of (take n (flags_of ws)))
+pub kept_lowest : (n k s : ℕ) (ws : List ℕ) → KeepsFlags n k ws → lowest_from s (streams_of (flags_of ws)) ≡ lowest_from s (streams_of (take n (flags_of ws)))
 kept_lowest n k s ws h = ap (lowest_from s) (sym (kept_same n k ws h))
 
 pub lowest_within : (n s x : ℕ) (flags : List Bool) → lowest_from s (streams_of (take n flags)) ≡ Some x → x < n

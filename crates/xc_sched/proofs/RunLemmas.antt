@@ -1,17 +1,15 @@
 -- Runs of steps.
-use Rattle.std.proofs.Common.{◌≡◌, ◌≢◌, ℕ, zero, suc, ◌+◌, ◌-◌, ◌<◌, ◌≤◌, ◌^◌, ◌&&◌, ◌⊎◌, inl, inr, not, Bool, true, false, cond, eqb, List, [], ◌∷◌, ◌++◌, length, take, drop, map, set, Option, Some, None, get_or, refl, sym, ap, subst, ◌∙◌, append_assoc, arith}
-use Rattle.std.specs.Prelude.{slice_get, replicate, min}
-use Rattle.std.specs.List.{flat_map}
+use Rattle.std.proofs.Common.{◌≡◌, ◌≢◌, ℕ, zero, suc, ◌+◌, ◌-◌, ◌<◌, ◌≤◌, ◌^◌, ◌&&◌, Bool, true, false, List, [], ◌∷◌, ◌++◌, length, drop, set, Option, Some, None, get_or, refl, sym, ap, subst, ◌∙◌, append_assoc, arith}
+use Rattle.std.specs.Prelude.{slice_get, replicate}
 use Rattle.std.specs.Option.{option_map}
-use Rattle.std.proofs.lemmas.Bool.{and_parts, eqb-true}
+use Rattle.std.proofs.lemmas.Bool.{and_parts}
 use Rattle.std.proofs.lemmas.Bool.Decides.{nat_tests}
 use Rattle.std.proofs.lemmas.Grind.{flat_map-append}
-use Rattle.std.proofs.lemmas.List.{append-nil, drop_all, drop_more, drop-set, take_more, length-append, length-replicate, length-set, replicate-append-replicate}
+use Rattle.std.proofs.lemmas.List.{append-nil, drop_more, drop-set, length-set, replicate-append-replicate}
 use Rattle.std.proofs.lemmas.List.Concat.{flat_map-cons}
 use Rattle.xc_sched.specs.declared.run.Run.{Run}
 use Rattle.xc_sched.specs.Runs.{is_valid, last_of, is_other, may_follow, FitsAfter, Fits, steps_of}
-use Rattle.xc_sched.specs.Kept.{IsKept}
-use Rattle.xc_sched.specs.Choices.{PicksNext}
+use Rattle.xc_sched.specs.Runs.{KeepsRuns}
 
 -- ---- the last run
 
@@ -43,6 +41,9 @@ valid_of r h = grind (arith, nat_tests, h.stream, h.some, h.most)
 pub valid_in : (before : Option ℕ) (r : Run) → may_follow before r ≡ true → is_valid r ≡ true
 valid_in before r h = (and_parts (is_valid r) (is_other before r.stream) h).0
 
+pub other_in : (before : Option ℕ) (r : Run) → may_follow before r ≡ true → is_other before r.stream ≡ true
+other_in before r h = (and_parts (is_valid r) (is_other before r.stream) h).1
+
 both_true : (a b : Bool) → a ≡ true → b ≡ true → (a && b) ≡ true
 both_true true b e h = h
 both_true false b e h = absurd cc
@@ -63,11 +64,6 @@ pub steps_of-push : (runs : List Run) (r : Run) → steps_of (runs ++ r ∷ []) 
 steps_of-push runs r =
     flat_map-append (λ (x : Run). replicate x.count x.stream) runs (r ∷ []) ∙ ap (λ (x : List ℕ). steps_of runs ++ x) (steps_of-cons r [] ∙ append-nil (replicate r.count r.stream))
 
-pub count_more : (runs : List Run) (i : ℕ) (r : Run) → i < length runs → get_or runs i r ≡ r → length (steps_of (take (i + 1) runs)) ≡ length (steps_of (take i runs)) + r.count
-count_more runs i r h e =
-    let more : take (i + 1) runs ≡ take i runs ++ r ∷ [] = take_more runs i r h ∙ ap (λ x. take i runs ++ x ∷ []) e in
-    omega (arith, ap (λ x. length (steps_of x)) more, ap length (steps_of-push (take i runs) r), length-append (steps_of (take i runs)) (replicate r.count r.stream), length-replicate r.count r.stream)
-
 -- ---- a step is taken
 
 relaxed : (s : ℕ) (runs : List Run) → FitsAfter (Some s) runs → Fits runs
@@ -78,7 +74,7 @@ relaxed s (r ∷ runs) h = (may_from None r (valid_in (Some s) r h.0) refl, h.1)
 pub run_at : (at : ℕ) (runs : List Run) (r : Run) → at < length runs → r ≡ get_or runs at r → drop at runs ≡ r ∷ drop (at + 1) runs
 run_at at runs r h e = drop_more runs at r h ∙ ap (λ x. x ∷ drop (at + 1) runs) (sym e)
 
-pub kept_next : (at : ℕ) (runs : List Run) (r : Run) → IsKept at runs → at < length runs → r ≡ get_or runs at r → IsKept (at + 1) runs
+pub kept_next : (at : ℕ) (runs : List Run) (r : Run) → KeepsRuns at runs → at < length runs → r ≡ get_or runs at r → KeepsRuns (at + 1) runs
 kept_next at runs r kept h e = record {
   within = omega arith;
   few = kept.few;
@@ -95,7 +91,7 @@ replicate-more (suc n) s h = let e : n ≡ suc n - 1 = omega arith in ap (λ k. 
 pub run_shorter : (at : ℕ) (runs : List Run) (r : Run) → at < length runs → drop at (set runs at (shorter r)) ≡ shorter r ∷ drop (at + 1) runs
 run_shorter at runs r h = drop-set runs at (shorter r) h
 
-pub kept_shorter : (at : ℕ) (runs : List Run) (r : Run) → IsKept at runs → at < length runs → r ≡ get_or runs at r → r.count ≢ 1 → IsKept at (set runs at (shorter r))
+pub kept_shorter : (at : ℕ) (runs : List Run) (r : Run) → KeepsRuns at runs → at < length runs → r ≡ get_or runs at r → r.count ≢ 1 → KeepsRuns at (set runs at (shorter r))
 kept_shorter at runs r kept h e more =
     let fit : Fits (r ∷ drop (at + 1) runs) = subst Fits (run_at at runs r h e) kept.fit in
     let ranges = ranges_of r (valid_in None r fit.0) in
@@ -106,30 +102,6 @@ kept_shorter at runs r kept h e more =
       few = omega (arith, kept.few, len);
       fit = subst Fits (sym (run_shorter at runs r h)) (may_from None (shorter r) valid refl, fit.1);
     }
-
-pub some_steps : (at : ℕ) (runs : List Run) (r : Run) → IsKept at runs → at < length runs → r ≡ get_or runs at r → 1 ≤ r.count
-some_steps at runs r kept h e =
-    let fit : Fits (r ∷ drop (at + 1) runs) = subst Fits (run_at at runs r h e) kept.fit in
-    (ranges_of r (valid_in None r fit.0)).some
-
--- the first step, and those that are left
-pub steps_next : (at : ℕ) (runs : List Run) (r : Run) → at < length runs → r ≡ get_or runs at r → r.count ≡ 1 → steps_of (drop at runs) ≡ r.stream ∷ steps_of (drop (at + 1) runs)
-steps_next at runs r h e one =
-    ap steps_of (run_at at runs r h e) ∙ steps_of-cons r (drop (at + 1) runs) ∙ ap (λ n. replicate n r.stream ++ steps_of (drop (at + 1) runs)) one
-
-pub steps_shorter : (at : ℕ) (runs : List Run) (r : Run) → at < length runs → r ≡ get_or runs at r → 1 ≤ r.count → steps_of (drop at runs) ≡ r.stream ∷ steps_of (drop at (set runs at (shorter r)))
-steps_shorter at runs r h e some =
-    ap steps_of (run_at at runs r h e) ∙ steps_of-cons r (drop (at + 1) runs) ∙ ap (λ (x : List ℕ). x ++ steps_of (drop (at + 1) runs)) (replicate-more r.count r.stream some)
-    ∙ ap (λ (x : List ℕ). r.stream ∷ x) (sym (ap steps_of (run_shorter at runs r h) ∙ steps_of-cons (shorter r) (drop (at + 1) runs)))
-
-pub picks_first : (old left ready : List ℕ) (s : ℕ) → old ≡ s ∷ left → PicksNext old ready (Some s) left
-picks_first old left ready s e = subst (λ x. PicksNext x ready (Some s) left) (sym e) (refl, refl)
-
-pub picks_none : (old ready : List ℕ) → old ≡ [] → PicksNext old ready None old
-picks_none old ready e = subst (λ x. PicksNext x ready None x) (sym e) (refl, refl)
-
-pub none_left : (at : ℕ) (runs : List Run) → length runs ≤ at → steps_of (drop at runs) ≡ []
-none_left at runs h = ap steps_of (drop_all at runs h)
 
 -- ---- a step is added
 
@@ -155,8 +127,8 @@ pub grow_steps : (runs : List Run) (n : ℕ) (r : Run) → length runs ≡ n + 1
 grow_steps [] n r len e = absurd (omega arith)
 grow_steps (x ∷ []) zero r len e =
     subst (λ y. steps_of (longer y ∷ []) ≡ steps_of (x ∷ []) ++ y.stream ∷ []) e (
-      steps_of-cons (longer x) [] ∙ append-nil (replicate (x.count + 1) x.stream) ∙ replicate-push x.count x.stream
-      ∙ ap (λ (s : List ℕ). s ++ x.stream ∷ []) (sym (steps_of-cons x [] ∙ append-nil (replicate x.count x.stream)))
+    steps_of-cons (longer x) [] ∙ append-nil (replicate (x.count + 1) x.stream) ∙ replicate-push x.count x.stream
+    ∙ ap (λ (s : List ℕ). s ++ x.stream ∷ []) (sym (steps_of-cons x [] ∙ append-nil (replicate x.count x.stream)))
     )
 grow_steps (x ∷ y ∷ runs) zero r len e = absurd (omega arith)
 grow_steps (x ∷ []) (suc n) r len e = absurd (omega arith)
@@ -164,3 +136,58 @@ grow_steps (x ∷ y ∷ runs) (suc n) r len e =
     steps_of-cons x (set (y ∷ runs) n (longer r)) ∙ ap (λ (s : List ℕ). replicate x.count x.stream ++ s) (grow_steps (y ∷ runs) n r (omega arith) e)
     ∙ sym (append_assoc (replicate x.count x.stream) (steps_of (y ∷ runs)) (r.stream ∷ []))
     ∙ ap (λ (s : List ℕ). s ++ r.stream ∷ []) (sym (steps_of-cons x (y ∷ runs)))
+
+-- ---- runs by their steps
+
+abbrev IsOtherHead : ℕ → List ℕ → Type 0
+IsOtherHead s [] = Unit {0}
+IsOtherHead s (x ∷ xs) = x ≢ s
+
+split_same : (n m s : ℕ) (xs ys : List ℕ) → IsOtherHead s xs → IsOtherHead s ys → replicate n s ++ xs ≡ replicate m s ++ ys → (n ≡ m) × (xs ≡ ys)
+split_same zero zero s xs ys h k e = (refl, e)
+split_same zero (suc m) s [] ys h k e = absurd cc
+split_same zero (suc m) s (x ∷ xs) ys h k e = absurd (h cc)
+split_same (suc n) zero s xs [] h k e = absurd cc
+split_same (suc n) zero s xs (y ∷ ys) h k e = absurd (k cc)
+split_same (suc n) (suc m) s xs ys h k e =
+    let rest : replicate n s ++ xs ≡ replicate m s ++ ys = cc in
+    let p = split_same n m s xs ys h k rest in
+    (ap suc p.0, p.1)
+
+heads : (n m s t : ℕ) (xs ys : List ℕ) → 1 ≤ n → 1 ≤ m → replicate n s ++ xs ≡ replicate m t ++ ys → s ≡ t
+heads zero m s t xs ys h k e = absurd (omega arith)
+heads (suc n) zero s t xs ys h k e = absurd (omega arith)
+heads (suc n) (suc m) s t xs ys h k e = cc
+
+pub is_not : (s t : ℕ) → is_other (Some s) t ≡ true → t ≢ s
+is_not s t h e = absurd (grind (arith, nat_tests, h, e))
+
+other_head : (s : ℕ) (runs : List Run) → FitsAfter (Some s) runs → IsOtherHead s (steps_of runs)
+other_head s [] h = tt
+other_head s (r ∷ runs) h =
+    let some = (ranges_of r (valid_in (Some s) r h.0)).some in
+    subst (IsOtherHead s) (sym (steps_of-cons r runs ∙ ap (λ (x : List ℕ). x ++ steps_of runs) (replicate-more r.count r.stream some))) (is_not s r.stream (other_in (Some s) r h.0))
+
+no_steps : (before : Option ℕ) (r : Run) (runs : List Run) → FitsAfter before (r ∷ runs) → [] ≡ steps_of (r ∷ runs) → ⊥
+no_steps before r runs h e =
+    let some = (ranges_of r (valid_in before r h.0)).some in
+    let is = e ∙ steps_of-cons r runs ∙ ap (λ (x : List ℕ). x ++ steps_of runs) (replicate-more r.count r.stream some) in
+    absurd cc
+
+-- the runs of steps are unique
+pub unique : (p q : Option ℕ) (a b : List Run) → FitsAfter p a → FitsAfter q b → steps_of a ≡ steps_of b → a ≡ b
+unique p q [] [] h k e = refl
+unique p q [] (y ∷ b) h k e = absurd (no_steps q y b k e)
+unique p q (x ∷ a) [] h k e = absurd (no_steps p x a h (sym e))
+unique p q (x ∷ a) (y ∷ b) h k e =
+    let all : replicate x.count x.stream ++ steps_of a ≡ replicate y.count y.stream ++ steps_of b = sym (steps_of-cons x a) ∙ e ∙ steps_of-cons y b in
+    let sx = (ranges_of x (valid_in p x h.0)).some in
+    let sy = (ranges_of y (valid_in q y k.0)).some in
+    let stream : x.stream ≡ y.stream = heads x.count y.count x.stream y.stream (steps_of a) (steps_of b) sx sy all in
+    let other : IsOtherHead x.stream (steps_of b) = subst (λ s. IsOtherHead s (steps_of b)) (sym stream) (other_head y.stream b k.1) in
+    let parts = split_same x.count y.count x.stream (steps_of a) (steps_of b) (other_head x.stream a h.1) other (all ∙ ap (λ s. replicate y.count s ++ steps_of b) (sym stream)) in
+    let first : x ≡ y = ap (λ s. record { stream = s; count = x.count }) stream ∙ ap (λ n. record { stream = y.stream; count = n }) parts.0 in
+    let rest : a ≡ b = unique (Some x.stream) (Some y.stream) a b h.1 k.1 parts.1 in
+    ap (λ r. r ∷ a) first ∙ ap (λ (l : List Run). y ∷ l) rest
+
+-- ---- the text of runs

@@ -1,7 +1,6 @@
 -- Streams by their flags.
-use Rattle.std.proofs.Common.{◌≡◌, ℕ, zero, suc, ◌+◌, ◌-◌, ◌<◌, ◌≤◌, Bool, true, false, cond, leb, get_or, List, [], ◌∷◌, ◌++◌, length, take, drop, map, set, Option, Some, None, refl, sym, ap, subst, ◌∙◌, arith}
+use Rattle.std.proofs.Common.{◌≡◌, ℕ, zero, suc, ◌+◌, ◌-◌, ◌<◌, ◌≤◌, Bool, true, false, cond, leb, get_or, List, [], ◌∷◌, ◌++◌, length, take, drop, map, set, Some, refl, sym, ap, subst, ◌∙◌, arith}
 use Rattle.std.specs.Prelude.{slice_get, sum_by, find, replicate}
-use Rattle.std.specs.Option.{option_map}
 use Rattle.std.proofs.lemmas.List.{append-nil, length-take, take-append-drop}
 use Rattle.std.proofs.lemmas.List.Sums.{sum_by-cons, sum_by-set}
 use Rattle.xc_sched.specs.Streams.{streams_from, streams_of, lowest_from}
@@ -102,7 +101,7 @@ pub streams_of-take : (n : ℕ) (flags : List Bool) → n ≤ length flags → s
 streams_of-take n flags h none =
     let len : 0 + length (take n flags) ≡ n = omega (arith, length-take n flags) in
     sym (
-      ap (streams_from 0) (sym (take-append-drop n flags)) ∙ streams_from-append 0 (take n flags) (drop n flags)
-      ∙ ap (λ k. streams_of (take n flags) ++ streams_from k (drop n flags)) len
-      ∙ ap (λ (x : List ℕ). streams_of (take n flags) ++ x) none ∙ append-nil (streams_of (take n flags))
+    ap (streams_from 0) (sym (take-append-drop n flags)) ∙ streams_from-append 0 (take n flags) (drop n flags)
+    ∙ ap (λ k. streams_of (take n flags) ++ streams_from k (drop n flags)) len
+    ∙ ap (λ (x : List ℕ). streams_of (take n flags) ++ x) none ∙ append-nil (streams_of (take n flags))
     )

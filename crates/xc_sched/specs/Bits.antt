@@ -15,7 +15,7 @@ abbrev pub flags_of : List ℕ → List Bool
 flags_of words = flat_map word_flags words
 
 -- The words have the bits of the streams and no other, and the count of those that are set.
-pub record IsKept (streams count : ℕ) (words : List ℕ) : Type 0 where
+pub record KeepsFlags (streams count : ℕ) (words : List ℕ) : Type 0 where
   pub room : streams ≤ 64 * length words
   pub few : streams < 2 ^ 32
   pub small : 64 * length words ≤ 2 ^ 32

@@ -2,4 +2,6 @@ pub mod Streams
 pub mod Bits
 pub mod Choices
 pub mod Runs
-pub mod Kept
+pub mod Drafts
+pub mod Faults
+pub mod Losses

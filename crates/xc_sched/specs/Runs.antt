@@ -1,5 +1,5 @@
 -- The text of a schedule: runs of steps, each of one stream.
-use Rattle.std.specs.Prelude.{◌≡◌, ℕ, ◌+◌, ◌^◌, ◌==◌, Bool, true, ◌&&◌, not, List, [], ◌∷◌, map, fold, replicate, Option, Some, None, nat_lt, nat_le, codes, if◌then◌else◌}
+use Rattle.std.specs.Prelude.{◌≡◌, ℕ, ◌-◌, ◌^◌, ◌<◌, ◌≤◌, ◌==◌, Bool, true, ◌&&◌, not, List, [], ◌∷◌, length, drop, map, replicate, Option, Some, None, nat_lt, nat_le, codes}
 use Rattle.std.specs.Fmt.{decimal}
 use Rattle.std.specs.List.{flat_map, join_with_byte}
 use Rattle.xc_line.specs.Grammar.{with_feeds}
@@ -42,6 +42,12 @@ line_of r = join_with_byte 32 (decimal r.stream ∷ decimal r.count ∷ [])
 
 abbrev pub text_of : List Run → List ℕ
 text_of runs = with_feeds (header ∷ map line_of runs)
+
+-- Runs with a text, of which those before place `at` have been replayed; they are few enough for a `u32` to number the lines and the one after.
+pub record KeepsRuns (at : ℕ) (runs : List Run) : Type 0 where
+  pub within : at ≤ length runs
+  pub few : length runs < 2 ^ 32 - 2
+  pub fit : Fits (drop at runs)
 
 -- The text spells these steps.
 pub record Spells (text steps : List ℕ) : Type 0 where

@@ -2,10 +2,18 @@
 #![tactic(auto)]
 
 mod chooser;
+mod draft;
 mod ready;
 mod recorded;
+mod recorder;
 mod run;
+mod text;
 
 pub use chooser::{Chooser, RoundRobin, Seeded, next_seed};
 pub use ready::Ready;
 pub use recorded::Recorded;
+pub use recorder::{Loss, Recorder};
+pub use text::{SchedFault, print_schedule, read_schedule};
+
+#[cfg(test)]
+mod tests;

@@ -21,13 +21,13 @@ pub struct Ready {
 
 impl Model for Ready {
     ghost use Rattle.std.specs.Prelude.{List, Bool, take};
-    ghost use Rattle.xc_sched.specs.Bits.{flags_of, IsKept};
+    ghost use Rattle.xc_sched.specs.Bits.{flags_of, KeepsFlags};
 
     ghost Value = { List Bool };
 
     ghost view = { λ r. take r.streams (flags_of r.words.items) };
 
-    ghost invariant = { λ r. IsKept r.streams r.count r.words.items };
+    ghost invariant = { λ r. KeepsFlags r.streams r.count r.words.items };
 }
 
 impl Ready {

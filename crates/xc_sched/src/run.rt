@@ -1,6 +1,6 @@
 //! Runs of steps of one stream.
 
-ghost use Rattle.std.specs.Prelude.{◌≡◌};
+ghost use Rattle.std.specs.Prelude.{◌≡◌, ◌≤◌, length, drop};
 ghost use Rattle.xc_sched.specs.Runs.{last_of, is_other as is_other_stream};
 
 /// The streams that a schedule may name are below this.
@@ -27,4 +27,12 @@ pub(crate) fn is_other(runs: &[Run], stream: u32) -> bool
         None => true,
         Some(last) => last.stream != stream,
     }
+}
+
+/// The runs from one on.
+pub(crate) fn rest(runs: &[Run], at: usize) -> &[Run]
+    requires { at ≤ length runs.now }
+    ensures { result.now ≡ drop at runs.now }
+{
+    &runs[at..]
 }

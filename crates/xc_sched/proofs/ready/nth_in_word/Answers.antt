@@ -1,6 +1,5 @@
-use Rattle.std.proofs.Common.{◌≡◌, ◌<◌, sym, ◌∙◌, ap, subst, arith}
+use Rattle.std.proofs.Common.{◌≡◌, sym, ◌∙◌, ap, arith}
 use Rattle.std.specs.Prelude.{slice_get}
-use Rattle.std.specs.Int.RustNames.{count_ones}
 use Rattle.xc_sched.specs.Streams.{streams_of}
 use Rattle.xc_sched.specs.Bits.{word_flags}
 use Rattle.xc_sched.proofs.ReadyLemmas.{one_less, first_bit}

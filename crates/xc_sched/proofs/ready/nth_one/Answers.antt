@@ -1,4 +1,4 @@
-use Rattle.std.proofs.Common.{sym, ◌∙◌, ap, arith}
+use Rattle.std.proofs.Common.{sym, ◌∙◌, arith}
 use Rattle.xc_sched.proofs.ReadyLemmas.{nth_found, nth_past}
 use Rattle.xc_sched.proofs.ready.nth_one.Goals as goal
 

@@ -1,7 +1,7 @@
-use Rattle.std.proofs.Common.{◌≡◌, ◌+◌, ◌-◌, ◌%◌, ◌/◌, ◌<◌, ℕ, List, length, not, Bool, true, false, get_or, set, take, sym, ap, subst, refl, ◌∙◌, arith}
+use Rattle.std.proofs.Common.{◌≡◌, ◌+◌, ◌%◌, ◌/◌, ◌<◌, ℕ, List, length, not, Bool, true, false, get_or, set, take, sym, ap, subst, ◌∙◌, arith}
 use Rattle.std.proofs.lemmas.List.{length-take}
 use mathlib.Core.Bool.{beq}
-use Rattle.xc_sched.specs.Bits.{flags_of, IsKept}
+use Rattle.xc_sched.specs.Bits.{flags_of, KeepsFlags}
 use Rattle.xc_sched.proofs.BitLemmas.{flipped}
 use Rattle.xc_sched.proofs.StreamLemmas.{one}
 use Rattle.xc_sched.proofs.ReadyLemmas.{turned, turned_by, other, kept_turned, view_turned, count_room, count_some}
@@ -9,12 +9,12 @@ use Rattle.xc_sched.proofs.ready.Ready.set.Goals as goal
 
 -- what is known of a stream whose flag changes
 record Changes (n k s x : ℕ) (ws : List ℕ) (b : Bool) : Type 0 where
-  kept : IsKept n k ws
+  kept : KeepsFlags n k ws
   within : s < n
   flag : get_or (flags_of ws) s false ≡ not b
   word : set ws (s / 64) (flipped x (s % 64)) ≡ turned ws s
 
-changes : (n k s x : ℕ) (ws now : List ℕ) (flags : List Bool) (was on b : Bool) → IsKept n k ws → take n (flags_of ws) ≡ flags → s < length flags → was ≡ get_or (flags_of now) s false → now ≡ ws → beq was on ≡ false → on ≡ b → x ≡ get_or ws (s / 64) x → Changes n k s x ws b
+changes : (n k s x : ℕ) (ws now : List ℕ) (flags : List Bool) (was on b : Bool) → KeepsFlags n k ws → take n (flags_of ws) ≡ flags → s < length flags → was ≡ get_or (flags_of now) s false → now ≡ ws → beq was on ≡ false → on ≡ b → x ≡ get_or ws (s / 64) x → Changes n k s x ws b
 changes n k s x ws now flags was on b kept view within is same differ on_is word =
     let lt : s < n = omega (arith, ap length view, length-take n (flags_of ws), within) in
     record {
@@ -24,8 +24,8 @@ changes n k s x ws now flags was on b kept view within is same differ on_is word
       word = turned_by ws s x (omega (arith, kept.room, lt)) word;
     }
 
-kept_after : (n k m s x : ℕ) (ws : List ℕ) (b : Bool) → Changes n k s x ws b → m + one (not b) ≡ k + one b → IsKept n m (set ws (s / 64) (flipped x (s % 64)))
-kept_after n k m s x ws b h count = subst (IsKept n m) (sym h.word) (kept_turned n k m s ws b h.kept h.within h.flag count)
+kept_after : (n k m s x : ℕ) (ws : List ℕ) (b : Bool) → Changes n k s x ws b → m + one (not b) ≡ k + one b → KeepsFlags n m (set ws (s / 64) (flipped x (s % 64)))
+kept_after n k m s x ws b h count = subst (KeepsFlags n m) (sym h.word) (kept_turned n k m s ws b h.kept h.within h.flag count)
 
 view_after : (n k s x : ℕ) (ws : List ℕ) (flags : List Bool) (on b : Bool) → Changes n k s x ws b → take n (flags_of ws) ≡ flags → on ≡ b → take n (flags_of (set ws (s / 64) (flipped x (s % 64)))) ≡ set flags s on
 view_after n k s x ws flags on b h view on_is =

@@ -1,5 +1,5 @@
-use Rattle.std.proofs.Common.{sym, arith}
-use Rattle.xc_sched.proofs.RunLemmas.{kept_next, kept_shorter}
+use Rattle.std.proofs.Common.{arith}
+use Rattle.xc_sched.proofs.RunLemmas.{kept_next}
 use Rattle.xc_sched.proofs.recorded.RecordedChooser.next.Goals as goal
 
 pub invariant_of-self : goal.invariant_of-self
