@@ -60,7 +60,6 @@ impl Model for Affine {
 }
 
 impl Var {
-
     /// Whether this is that variable.
     fn is(self, other: Var) -> bool
         ensures { result ≡ same_var self other }
@@ -68,7 +67,6 @@ impl Var {
         self == other
     }
 }
-
 
 /// What a variable is multiplied with.
 fn coefficient(terms: &[Term], var: Var) -> i64
@@ -106,7 +104,10 @@ fn merge(alloc: Global, a: &[Term], b: &[Term]) -> SmallVec<Term, 16>
     let mut terms = SmallVec::new(alloc);
     for term in a {
         let coeff = term.coeff + coefficient(b, term.var);
-        terms.push_reserved(Term { var: term.var, coeff });
+        terms.push_reserved(Term {
+            var: term.var,
+            coeff,
+        });
     }
     for other in b {
         if !has(a, other.var) {
@@ -114,6 +115,33 @@ fn merge(alloc: Global, a: &[Term], b: &[Term]) -> SmallVec<Term, 16>
         }
     }
     terms
+}
+
+/// A coefficient or a constant times a number.
+fn product(a: i64, b: i64) -> i64
+    requires first { unsigned_abs a ≤ 2 ^ 31 }
+    requires second { unsigned_abs b ≤ 2 ^ 31 }
+    ensures { result ≡ a *ℤ b }
+{
+    a * b
+}
+
+/// The terms times a number.
+fn scale_terms(alloc: Global, terms: &[Term], by: i64) -> SmallVec<Term, 8>
+    requires few { length terms.now ≤ 8 }
+    requires narrow { All (λ term. IsCoefficient term.coeff) terms.now }
+    requires small { unsigned_abs by ≤ 2 ^ 31 }
+    ensures { result.items ≡ map (scaled by) terms.now }
+{
+    let mut scaled = SmallVec::new(alloc);
+    for term in terms {
+        let coeff = product(term.coeff, by);
+        scaled.push_reserved(Term {
+            var: term.var,
+            coeff,
+        });
+    }
+    scaled
 }
 
 /// Appends a term that is not 0, where that passes no limit.
@@ -200,12 +228,9 @@ impl Affine {
         ensures value { IfOk result (λ product. (at : Var → ℤ) → value_of product at ≡ (value_of self.now at *ℤ by)) }
     {
         let alloc = *self.terms.allocator();
-        let mut terms: SmallVec<Term, 8> = SmallVec::new(alloc);
-        for term in self.terms.as_slice() {
-            let coeff = term.coeff * by;
-            terms.push_reserved(Term { var: term.var, coeff });
-        }
-        Affine::of_terms(alloc, terms.as_slice(), self.constant * by)
+        let terms = scale_terms(alloc, self.terms.as_slice(), by);
+        let constant = product(self.constant, by);
+        Affine::of_terms(alloc, terms.as_slice(), constant)
     }
 
     /// The sum of two forms. It takes no memory.

@@ -7,9 +7,17 @@ pub mod divisor;
 pub mod plan;
 
 pub use affine::{Affine, Term, TooWide, Var};
-pub use certificate::{Answers, Certs, Class, CrossCert, Letter, LoopCert, Op, PairCert, PartCert, ScalarCert, Why};
+pub use certificate::{
+    Answers, Certs, Class, CrossCert, Letter, LoopCert, Op, PairCert, PartCert, ScalarCert, Why,
+};
 pub use divisor::gcd;
-pub use plan::{Classes, Conflict, Found, Guard, LoopPlan, Operand, Plan, Reason, Recurrence, Reduction, Side, Target};
+pub use plan::{
+    Classes, Conflict, Found, Guard, LoopPlan, Operand, Plan, Reason, Recurrence, Reduction, Side,
+    Target,
+};
 
 /// The place of a loop in its program, in text order from 0.
 pub type LoopId = u32;
+
+#[cfg(test)]
+mod tests;

@@ -7,5 +7,5 @@ abbrev pub invariant-loop-term : goal.invariant-loop-term
 invariant-loop-term l = record {
   items : l.terms.items ≡ nonzero (take l.term-index l.all);
   narrow : AreNarrow l.terms.items;
-  room : l.terms.capacity ≡ 8
+  room : l.terms.capacity ≡ 8;
 }
