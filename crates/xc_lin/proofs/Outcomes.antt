@@ -10,7 +10,7 @@ never_both (Err e) failed ok = cc
 pub never_true : false ≡ true → ⊥
 never_true e = cc
 
-times-sum : (a b c : ℤ) → (a *ℤ (b +ℤ c)) ≡ ((a *ℤ b) +ℤ (a *ℤ c))
+pub times-sum : (a b c : ℤ) → (a *ℤ (b +ℤ c)) ≡ ((a *ℤ b) +ℤ (a *ℤ c))
 times-sum (pos zero) b c = rw (zero-*ℤ (b +ℤ c), zero-*ℤ b, zero-*ℤ c) refl
 times-sum (pos (suc n)) b c = omega (arith, ints, suc_ℤ-*ℤ (pos n) (b +ℤ c), suc_ℤ-*ℤ (pos n) b, suc_ℤ-*ℤ (pos n) c, times-sum (pos n) b c)
 times-sum (negsuc zero) b c = omega (arith, ints, pred_ℤ-*ℤ (pos zero) (b +ℤ c), pred_ℤ-*ℤ (pos zero) b, pred_ℤ-*ℤ (pos zero) c, zero-*ℤ (b +ℤ c), zero-*ℤ b, zero-*ℤ c)
@@ -20,7 +20,7 @@ times-sum (negsuc (suc n)) b c = omega (arith, ints, pred_ℤ-*ℤ (negsuc n) (b
 pub times-plus : (a b c : ℤ) → ((a +ℤ b) *ℤ c) ≡ ((a *ℤ c) +ℤ (b *ℤ c))
 times-plus a b c = rw (*ℤ_comm (a +ℤ b) c, *ℤ_comm a c, *ℤ_comm b c) (times-sum c a b)
 
-neg-times : (b c : ℤ) → (neg_ℤ b *ℤ c) ≡ neg_ℤ (b *ℤ c)
+pub neg-times : (b c : ℤ) → (neg_ℤ b *ℤ c) ≡ neg_ℤ (b *ℤ c)
 neg-times b c = let none : ((neg_ℤ b +ℤ b) *ℤ c) ≡ pos 0 = rw (+ℤ_invl b) (zero-*ℤ c) in omega (arith, ints, times-plus (neg_ℤ b) b c, none)
 
 -- products of three numbers

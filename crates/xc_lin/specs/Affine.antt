@@ -1,4 +1,4 @@
-use Rattle.std.specs.Prelude.{◌≡◌, ◌≢◌, ℕ, ℤ, pos, ◌+ℤ◌, ◌*ℤ◌, ◌≤◌, ◌^◌, Bool, true, false, not, ◌==◌, List, [], ◌∷◌, ◌++◌, length, map, filter, All, if◌then◌else◌, unsigned_abs, ◌||◌}
+use Rattle.std.specs.Prelude.{◌≡◌, ◌≢◌, ℤ, pos, ◌+ℤ◌, ◌*ℤ◌, ◌≤◌, ◌^◌, Bool, false, not, ◌==◌, List, [], ◌∷◌, ◌++◌, length, map, filter, All, if◌then◌else◌, unsigned_abs, ◌||◌}
 use Rattle.xc_lin.specs.declared.affine.Var.{Var}
 use Rattle.xc_lin.specs.declared.affine.Var.TheVariants.{Index, Symbol, GlobalSymbol}
 use Rattle.xc_lin.specs.declared.affine.Term.{Term}

@@ -5,6 +5,7 @@ pub mod affine;
 pub mod certificate;
 pub mod divisor;
 pub mod plan;
+pub mod region;
 
 pub use affine::{Affine, Term, TooWide, Var};
 pub use certificate::{
@@ -15,6 +16,7 @@ pub use plan::{
     Classes, Conflict, Found, Guard, LoopPlan, Operand, Plan, Reason, Recurrence, Reduction, Side,
     Target,
 };
+pub use region::{Range, Region};
 
 /// The place of a loop in its program, in text order from 0.
 pub type LoopId = u32;

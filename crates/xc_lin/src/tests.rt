@@ -35,25 +35,27 @@ fn sums_and_products(rt: HostRuntime) -> Result<(), Fail> {
     let i = Var::Index(0);
     let sum = line(alloc, i, 2, 1)?.add(&line(alloc, i, 3, 0)?)?;
     is_line(&rt, &sum, i, 5, 1);
-    let product = sum.scale(-3)?;
-    is_line(&rt, &product, i, -15, -3);
+    is_line(&rt, &sum.scale(-3)?, i, -15, -3);
     let widest = line(alloc, i, 1 << 20, 0)?;
     assert!(rt; widest.add(&line(alloc, i, 1, 0)?).is_err());
-    assert!(rt; widest.scale(2).is_err());
-    assert_eq!(rt;
-        widest.add(&line(alloc, i, -(1 << 20), 0)?)?.terms().len(),
-        0
-    );
-
-    let mut full = Affine::from_constant(alloc, 1 << 31)?;
-    for number in 0..8 {
-        full = full.add(&line(alloc, Var::Symbol(number), 1, 0)?)?;
-    }
-    assert_eq!(rt; full.terms().len(), 8);
-    assert!(rt;
-        full.add(&Affine::from_var(alloc, Var::GlobalSymbol(0)))
-            .is_err()
-    );
-    assert!(rt; full.add(&Affine::from_constant(alloc, 1)?).is_err());
+    let nothing = widest.add(&line(alloc, i, -(1 << 20), 0)?)?;
+    assert_eq!(rt; nothing.terms().len(), 0);
     Ok(())
+}
+
+/// A form with so many symbols and this constant.
+fn symbols(alloc: Global, count: u32, constant: i64) -> Result<Affine, TooWide> {
+    let mut form = Affine::from_constant(alloc, constant)?;
+    for number in 0..count {
+        form = form.add(&Affine::from_var(alloc, Var::Symbol(number)))?;
+    }
+    Ok(form)
+}
+
+#[test]
+fn limits_of_forms(rt: HostRuntime) {
+    let alloc = rt.alloc();
+    for (count, constant, fits) in [(8, 1 << 31, true), (9, 0, false), (0, (1 << 31) + 1, false)] {
+        assert_eq!(rt; symbols(alloc, count, constant).is_ok(), fits);
+    }
 }

@@ -1,7 +1,6 @@
-use Rattle.std.proofs.Common.{◌≡◌, ap, sym, subst, arith, take}
+use Rattle.std.proofs.Common.{◌≡◌, arith, take}
 use Rattle.std.proofs.lemmas.Int.{ints}
 use Rattle.std.proofs.lemmas.List.{take_all}
-use Rattle.xc_lin.specs.Affine.{IsSingle, nonzero}
 use Rattle.xc_lin.proofs.Merged.{narrow-more, single-nonzero}
 use Rattle.xc_lin.proofs.Outcomes.{never_both, never_true}
 use Rattle.xc_lin.proofs.affine.Affine.of_terms.Goals as goal
