@@ -2,7 +2,6 @@
 use Rattle.std.proofs.Common.{◌≡◌, ℕ, zero, suc, ◌+◌, ◌<◌, List, [], ◌∷◌, length, get_or, drop, map, Bool, true, false, refl, ap, ◌∙◌, subst, arith, add-one}
 use Rattle.std.specs.Prelude.{IsTrue, ◌&&◌, ◌||◌}
 use Rattle.std.proofs.Math.Seq.{drop-cons}
-use Rattle.std.proofs.lemmas.Option.{slice_get-get_or}
 use Rattle.std.proofs.lemmas.Grind.{common_steps}
 use Rattle.xc_tree.specs.Lists.{every, some}
 

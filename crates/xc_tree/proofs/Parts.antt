@@ -1,12 +1,12 @@
 -- What the invariant of a program says of its parts.
-use Rattle.std.proofs.Common.{◌≡◌, ℕ, ◌<◌, List, [], ◌∷◌, length, get_or, map, Bool, true, subst, arith}
+use Rattle.std.proofs.Common.{◌≡◌, ℕ, ◌<◌, List, length, get_or, map, true, subst, arith}
 use Rattle.std.specs.Prelude.{IsTrue, ◌==◌, nat_lt, slice_get, Some}
 use Rattle.std.proofs.lemmas.Grind.{common_steps}
-use Rattle.xc_tree.specs.declared.ty.Ty.{Ty, Int}
+use Rattle.xc_tree.specs.declared.ty.Ty.{Ty}
 use Rattle.xc_tree.specs.declared.tree.Object.{Object}
 use Rattle.xc_tree.specs.declared.tree.Func.{Func}
 use Rattle.xc_tree.specs.Lists.{every}
-use Rattle.xc_tree.specs.Types.{struct_shapes, structs_ok, is_object, is_size, sizes}
+use Rattle.xc_tree.specs.Types.{struct_shapes, structs_ok, is_object}
 use Rattle.xc_tree.specs.Typed.{context}
 use Rattle.xc_tree.specs.Statements.{stmt_ok}
 use Rattle.xc_tree.specs.Valid.{func_tests, func_ok, global_ok, format_ok, main_ok, tree_tests, tree_ok}

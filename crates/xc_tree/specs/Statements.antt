@@ -1,5 +1,5 @@
 -- When a statement is well typed (C99 6.8), when what leaves a body stands where it may, and which locals are seen where.
-use Rattle.std.specs.Prelude.{ℕ, Bool, true, false, ◌&&◌, ◌||◌, nat_lt, nat_le, is_some, is_none, List, [], ◌∷◌, ◌++◌, length, map, Option, Some, None, slice_get}
+use Rattle.std.specs.Prelude.{ℕ, Bool, true, false, ◌&&◌, nat_lt, nat_le, is_some, is_none, List, [], ◌∷◌, ◌++◌, length, map, Option, Some, None, slice_get}
 use Rattle.xc_tree.specs.declared.ty.Ty.{Ty}
 use Rattle.xc_tree.specs.declared.expr.Expr.{Expr}
 use Rattle.xc_tree.specs.declared.pragmas.Pragmas.{Pragmas}
@@ -13,7 +13,7 @@ use Rattle.xc_tree.specs.declared.stmt.StmtKind.TheFolds.{fold-Stmt}
 use Rattle.xc_tree.specs.declared.stmt.Capture.{Capture}
 use Rattle.xc_tree.specs.declared.tree.Local.{Local}
 use Rattle.xc_tree.specs.Lists.{every, has, ascending, passes, allows}
-use Rattle.xc_tree.specs.Types.{same_ty, is_void, is_plain, is_pointer, holds_pointer, fits, may_hold, cell_of, future_under}
+use Rattle.xc_tree.specs.Types.{same_ty, is_void, is_plain, holds_pointer, fits, may_hold, cell_of, future_under}
 use Rattle.xc_tree.specs.Typed.{Context, expr_ok, value_ok}
 use Rattle.xc_tree.specs.Walk.{locals_named}
 
@@ -92,13 +92,17 @@ leave_step (StmtKind-F.Declare x init) = record { clause = true; ok = λ w. true
 leave_step (StmtKind-F.Eval e) = record { clause = true; ok = λ w. true }
 leave_step (StmtKind-F.Block all) = record { clause = false; ok = λ w. every (map (λ s. s.ok w) all) }
 leave_step (StmtKind-F.If test then other) = record { clause = false; ok = λ w. then.ok w && allows (λ s. s.ok w) other }
-leave_step (StmtKind-F.Loop id f init test step body pragmas) = record { clause = false;
-    ok = λ w. header_ok f init test step && body.ok (record { ret = w.ret; looping = true }) }
+leave_step (StmtKind-F.Loop id f init test step body pragmas) = record {
+  clause = false;
+  ok = λ w. header_ok f init test step && body.ok (record { ret = w.ret; looping = true });
+}
 leave_step (StmtKind-F.Return e) = record { clause = false; ok = λ w. returns e w.ret }
 leave_step StmtKind-F.Break = record { clause = false; ok = λ w. w.looping }
 leave_step StmtKind-F.Continue = record { clause = false; ok = λ w. w.looping }
-leave_step (StmtKind-F.Future place captures body) = record { clause = false;
-    ok = λ w. passes (λ t. body.ok (record { ret = t; looping = false })) (future_under place.ty) }
+leave_step (StmtKind-F.Future place captures body) = record {
+  clause = false;
+  ok = λ w. passes (λ t. body.ok (record { ret = t; looping = false })) (future_under place.ty);
+}
 leave_step StmtKind-F.Empty = record { clause = false; ok = λ w. true }
 
 -- `break`, `continue` and `return` leave what is there, with a value of its type

@@ -261,8 +261,11 @@ is_variable (ExprKind-F.Local x) = true
 is_variable _ = false
 
 abbrev pub kind_step : Context → ExprKind-F Row Part → Row
-kind_step cx k = record { variable = is_variable k; within = within_mixed cx k;
-    ok = λ ty. every (map part_ok (parts k)) && (named cx k && (are_values (operands k) && rule cx k ty)) }
+kind_step cx k = record {
+  variable = is_variable k;
+  within = within_mixed cx k;
+  ok = λ ty. every (map part_ok (parts k)) && (named cx k && (are_values (operands k) && rule cx k ty));
+}
 
 abbrev pub part_of : Context → Expr → Part
 part_of cx = fold-Expr Row Part (kind_step cx)

@@ -1,5 +1,5 @@
 -- When a program is well typed.
-use Rattle.std.specs.Prelude.{ℕ, ◌-◌, ◌/◌, ◌%◌, ◌+◌, ◌^◌, Bool, true, false, ◌&&◌, ◌||◌, ◌==◌, nat_lt, nat_le, is_some, List, [], ◌∷◌, ◌++◌, length, map, take, sum_by, Option, Some, None, slice_get}
+use Rattle.std.specs.Prelude.{ℕ, ◌-◌, ◌/◌, ◌%◌, ◌+◌, ◌^◌, Bool, true, false, ◌&&◌, ◌||◌, ◌==◌, nat_lt, nat_le, is_some, List, [], ◌∷◌, ◌++◌, length, map, take, sum_by, Option, slice_get}
 use Rattle.xc_tree.specs.declared.ty.Ty.{Ty, Int}
 use Rattle.xc_tree.specs.declared.tree.Local.{Local}
 use Rattle.xc_tree.specs.declared.tree.Object.{Object}

@@ -4,7 +4,6 @@ use Rattle.xc_tree.specs.declared.expr.Expr.{Expr}
 use Rattle.xc_tree.specs.declared.expr.ExprKind.TheOpen.{ExprKind-F}
 use Rattle.xc_tree.specs.declared.expr.ExprKind.TheFolds.{fold-Expr}
 use Rattle.xc_tree.specs.declared.stmt.Stmt.{Stmt}
-use Rattle.xc_tree.specs.declared.stmt.Capture.{Capture}
 use Rattle.xc_tree.specs.declared.stmt.StmtKind.TheOpen.{StmtKind-F}
 use Rattle.xc_tree.specs.declared.stmt.StmtKind.TheFolds.{fold-Stmt}
 use Rattle.xc_tree.specs.Lists.{joined}

@@ -24,7 +24,10 @@ pub enum ExprKind {
     /// The value of a local that has no address.
     Local(u32),
     /// Gives a local that has no address a value, which is the value of the whole.
-    Set { local: u32, value: Boxed<Expr> },
+    Set {
+        local: u32,
+        value: Boxed<Expr>,
+    },
     /// The place of a global.
     Global(u32),
     /// The place of a local that has an address.
@@ -38,9 +41,15 @@ pub enum ExprKind {
         bound: Option<u32>,
     },
     /// The place of a member, so many cells into the struct at `base`.
-    Member { base: Boxed<Expr>, off: u32 },
+    Member {
+        base: Boxed<Expr>,
+        off: u32,
+    },
     /// Reads the scalar at a place.
-    Read { kind: Kind, place: Boxed<Expr> },
+    Read {
+        kind: Kind,
+        place: Boxed<Expr>,
+    },
     /// Writes the scalar at a place. It is void as a call, and has the written value as an assignment.
     Write {
         kind: Kind,
@@ -53,7 +62,9 @@ pub enum ExprKind {
         value: Boxed<Expr>,
     },
     /// Empties the cell at a place.
-    Purge { place: Boxed<Expr> },
+    Purge {
+        place: Boxed<Expr>,
+    },
     /// A compound assignment. Where `place` is a `Local`, it is that variable itself.
     /// The whole has the old value where `post` holds, else the new one.
     Update {
@@ -62,7 +73,10 @@ pub enum ExprKind {
         place: Boxed<Expr>,
         value: Boxed<Expr>,
     },
-    Unary { op: UnOp, of: Boxed<Expr> },
+    Unary {
+        op: UnOp,
+        of: Boxed<Expr>,
+    },
     Binary {
         op: BinOp,
         a: Boxed<Expr>,
@@ -80,7 +94,13 @@ pub enum ExprKind {
     },
     /// The comma operator.
     Comma(Boxed<Expr>, Boxed<Expr>),
-    Call { func: u32, args: Items<Expr> },
+    Call {
+        func: u32,
+        args: Items<Expr>,
+    },
     /// `printf`
-    Print { format: u32, args: Items<Expr> },
+    Print {
+        format: u32,
+        args: Items<Expr>,
+    },
 }

@@ -27,7 +27,8 @@ pub struct Local {
     pub addressed: bool,
 }
 
-/// A function. The first `params` of its locals are its parameters.
+/// A function. The first `params` of its locals are its parameters. Functions are numbered in the order of their
+/// definitions.
 #[derive(Drop)]
 pub struct Func {
     pub name: Span,
