@@ -10,3 +10,5 @@ pub use expr::copy_expr;
 pub use stmt::copy_stmt;
 pub use ty::copy_ty;
 
+#[cfg(test)]
+mod tests;
