@@ -1,5 +1,4 @@
 -- Small loops, each with its form: normal, or the first reason why it is not.
-use Rattle.std.proofs.lemmas.Grind.{common_steps}
 use Rattle.std.proofs.Common.{rules, ◌≡◌, ℕ, List, [], ◌∷◌, Bool, true, false}
 use Rattle.std.specs.Prelude.{Option, Some, None, Ok, Err, Result}
 use Rattle.xc_word.specs.declared.memory.Kind.TheVariants.{ReadXx, WriteXf}

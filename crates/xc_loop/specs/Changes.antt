@@ -1,10 +1,8 @@
 -- What a loop leaves unchanged. The lists of effects are those of the whole loop, its first clause included.
-use Rattle.std.specs.Prelude.{ℕ, Bool, true, false, ◌&&◌, ◌||◌, ◌==◌, not, cond, List, [], ◌∷◌, map, Option, Some, None, slice_get}
-use Rattle.xc_word.specs.declared.memory.Kind.{Kind}
+use Rattle.std.specs.Prelude.{ℕ, Bool, true, false, ◌&&◌, ◌==◌, not, cond, List, map, Option, Some, None, slice_get}
 use Rattle.xc_word.specs.declared.memory.Kind.TheVariants as kind
 use Rattle.xc_tree.specs.declared.operator.BinOp.{BinOp}
 use Rattle.xc_tree.specs.declared.operator.BinOp.TheVariants as op
-use Rattle.xc_tree.specs.declared.pragmas.Root.{Root}
 use Rattle.xc_tree.specs.declared.pragmas.Root.TheVariants as root
 use Rattle.xc_tree.specs.declared.ty.Ty.{Ty}
 use Rattle.xc_tree.specs.declared.expr.Expr.{Expr}

@@ -1,7 +1,6 @@
 -- Concurrent loops: in normal form, under `assert parallel`, and with a body that assigns only locals of its own.
 use Rattle.std.specs.Prelude.{ℕ, Bool, true, false, ◌&&◌, ◌==◌, not, is_ok, List, map, bit_and}
 use Rattle.xc_tree.specs.declared.pragmas.Marks.{Marks}
-use Rattle.xc_tree.specs.declared.pragmas.Pragmas.{Pragmas}
 use Rattle.xc_tree.specs.declared.stmt.Stmt.{Stmt}
 use Rattle.xc_tree.specs.declared.stmt.StmtKind.{StmtKind, out-StmtKind}
 use Rattle.xc_tree.specs.declared.stmt.StmtKind.TheOpen.{StmtKind-F}

@@ -1,5 +1,5 @@
 -- Constants: numbers, unary and binary integer operators, `?:` and casts over them (C99 6.6, without `sizeof`).
-use Rattle.std.specs.Prelude.{ℕ, Bool, true, false, ◌&&◌, ◌||◌, ◌==◌, not, cond, Option, Some, None, option_map, option_and_then}
+use Rattle.std.specs.Prelude.{ℕ, Bool, true, false, ◌&&◌, ◌||◌, ◌==◌, not, cond, Option, Some, None, option_map}
 use Rattle.xc_tree.specs.declared.operator.BinOp.{BinOp}
 use Rattle.xc_tree.specs.declared.operator.BinOp.TheVariants as op
 use Rattle.xc_tree.specs.declared.ty.Ty.{Ty, out-Ty}

@@ -1,5 +1,5 @@
 -- What an expression or a statement does, in the order of C99 6.5 and 6.8, each branch once and each loop once.
-use Rattle.std.specs.Prelude.{ℕ, Bool, true, false, ◌==◌, cond, List, [], ◌∷◌, ◌++◌, map, Option, Some, None, option_and_then}
+use Rattle.std.specs.Prelude.{ℕ, Bool, false, ◌==◌, cond, List, [], ◌∷◌, ◌++◌, map, Option, Some, None}
 use Rattle.xc_word.specs.declared.memory.Kind.{Kind}
 use Rattle.xc_word.specs.declared.memory.Kind.TheVariants as kind
 use Rattle.xc_tree.specs.declared.ty.Ty.{Ty, out-Ty}
@@ -14,7 +14,7 @@ use Rattle.xc_tree.specs.declared.stmt.Capture.{Capture}
 use Rattle.xc_tree.specs.declared.stmt.StmtKind.TheOpen.{StmtKind-F}
 use Rattle.xc_tree.specs.declared.stmt.StmtKind.TheFolds.{fold-Stmt}
 use Rattle.xc_tree.specs.Lists.{joined}
-use Rattle.xc_tree.specs.Types.{pointee_at, pointee, is_void, array_under}
+use Rattle.xc_tree.specs.Types.{pointee, is_void, array_under}
 use Rattle.xc_loop.specs.declared.effect.Effect.{Effect}
 use Rattle.xc_loop.specs.declared.effect.Effect.TheVariants as effect
 
@@ -133,8 +133,14 @@ abbrev pub deeds_step : ExprKind-F Row Deeds → Row
 deeds_step k = record { local = local_in k; zero = zero_in k; root = root_in k; array = array_in k; effects = effects_in k }
 
 abbrev pub deeds_of : Expr → Deeds
-deeds_of = fold-Expr Row Deeds deeds_step (λ e. record { ty = e.ty; local = e.kind.local; zero = e.kind.zero;
-    root = e.kind.root; array = e.kind.array; effects = e.kind.effects e.ty })
+deeds_of = fold-Expr Row Deeds deeds_step (λ e. record {
+  ty = e.ty;
+  local = e.kind.local;
+  zero = e.kind.zero;
+  root = e.kind.root;
+  array = e.kind.array;
+  effects = e.kind.effects e.ty;
+})
 
 -- the named object that a place lies in, else Other
 abbrev pub root_of : Expr → Root

@@ -1,5 +1,5 @@
 -- Pure functions: no access of a cell, addressed object, loop, `printf` or thread, and calls of earlier pure functions alone.
-use Rattle.std.specs.Prelude.{ℕ, Bool, true, false, ◌&&◌, not, List, [], ◌∷◌, ◌++◌, map, slice_get}
+use Rattle.std.specs.Prelude.{Bool, true, false, ◌&&◌, not, List, [], ◌∷◌, ◌++◌, map, slice_get}
 use Rattle.xc_tree.specs.declared.tree.Func.{Func}
 use Rattle.xc_tree.specs.declared.tree.Local.{Local}
 use Rattle.xc_tree.specs.Lists.{every, passes}

@@ -117,7 +117,11 @@ fn value_of(e: &Expr) -> Option<u64>
         ExprKind::And(a, b) => conjunction(value_of(a.get()), value_of(b.get())),
         ExprKind::Or(a, b) => disjunction(value_of(a.get()), value_of(b.get())),
         ExprKind::Cond { test, then, other } => {
-            chosen(value_of(test.get()), value_of(then.get()), value_of(other.get()))
+            chosen(
+                value_of(test.get()),
+                value_of(then.get()),
+                value_of(other.get()),
+            )
         }
         _ => None,
     }

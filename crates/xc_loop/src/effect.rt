@@ -210,33 +210,45 @@ fn collect_expr(out: &mut Vec<Effect>, e: &Expr) -> Result<(), AllocError>
         ExprKind::Member { base, off: _ } => collect_expr(out, base.get()),
         ExprKind::Read { kind, place } => {
             collect_expr(out, place.get())?;
-            put(out, Effect::Read {
-                root: root_of(place.get()),
-                kind: *kind,
-            })
+            put(
+                out,
+                Effect::Read {
+                    root: root_of(place.get()),
+                    kind: *kind,
+                },
+            )
         }
         ExprKind::Write { kind, place, value } => {
             collect_expr(out, place.get())?;
             collect_expr(out, value.get())?;
-            put(out, Effect::Write {
-                root: written_root(&e.ty, place.get()),
-                kind: *kind,
-            })
+            put(
+                out,
+                Effect::Write {
+                    root: written_root(&e.ty, place.get()),
+                    kind: *kind,
+                },
+            )
         }
         ExprKind::FetchAdd { place, value } => {
             collect_expr(out, place.get())?;
             collect_expr(out, value.get())?;
-            put(out, Effect::Write {
-                root: Root::Other,
-                kind: Kind::Add,
-            })
+            put(
+                out,
+                Effect::Write {
+                    root: Root::Other,
+                    kind: Kind::Add,
+                },
+            )
         }
         ExprKind::Purge { place } => {
             collect_expr(out, place.get())?;
-            put(out, Effect::Write {
-                root: Root::Other,
-                kind: Kind::Purge,
-            })
+            put(
+                out,
+                Effect::Write {
+                    root: Root::Other,
+                    kind: Kind::Purge,
+                },
+            )
         }
         ExprKind::Update {
             op: _,
@@ -288,7 +300,6 @@ fn collect_expr(out: &mut Vec<Effect>, e: &Expr) -> Result<(), AllocError>
     }
 }
 
-
 #[cycle(collect)]
 fn collect_exprs(out: &mut Vec<Effect>, list: &[Expr]) -> Result<(), AllocError>
     ensures { OnOk result (out.new.items ≡ out.old.items ++ exprs_effects list.now) }
@@ -327,14 +338,21 @@ fn collect_captures(out: &mut Vec<Effect>, list: &[Capture]) -> Result<(), Alloc
 }
 
 // What a `future` statement does before its body.
-fn collect_start(out: &mut Vec<Effect>, place: &Expr, captures: &[Capture]) -> Result<(), AllocError>
+fn collect_start(
+    out: &mut Vec<Effect>,
+    place: &Expr,
+    captures: &[Capture],
+) -> Result<(), AllocError>
     ensures { OnOk result (out.new.items ≡ out.old.items ++ start_effects place.now captures.now) }
 {
     collect_expr(out, place)?;
-    put(out, Effect::Write {
-        root: root_of(place),
-        kind: Kind::Purge,
-    })?;
+    put(
+        out,
+        Effect::Write {
+            root: root_of(place),
+            kind: Kind::Purge,
+        },
+    )?;
     collect_captures(out, captures)?;
     put(out, Effect::Future)
 }
@@ -391,10 +409,13 @@ fn collect_stmt(out: &mut Vec<Effect>, s: &Stmt) -> Result<(), AllocError>
         } => {
             collect_start(out, place, captures.as_slice())?;
             collect_stmt(out, body.get())?;
-            put(out, Effect::Write {
-                root: root_of(place),
-                kind: Kind::WriteXf,
-            })
+            put(
+                out,
+                Effect::Write {
+                    root: root_of(place),
+                    kind: Kind::WriteXf,
+                },
+            )
         }
     }
 }

@@ -15,3 +15,6 @@ pub use constants::constant;
 pub use effect::{Effect, effects_of, effects_of_expr, root_of};
 pub use normal::{Header, NotNormal, Step, normal_form};
 pub use pure::pure_functions;
+
+#[cfg(test)]
+mod tests;

@@ -60,9 +60,7 @@ fn index_of(locals: &[Local], init: &[Stmt]) -> Option<u32>
     };
     match &clause.kind {
         StmtKind::Eval(e) => match &e.kind {
-            ExprKind::Set { local, value: _ } => {
-                if is_int(&e.ty) { Some(*local) } else { None }
-            }
+            ExprKind::Set { local, value: _ } => { if is_int(&e.ty) { Some(*local) } else { None } }
             _ => None,
         },
         StmtKind::Declare { local, init: _ } => {

@@ -1,5 +1,5 @@
-use Rattle.std.proofs.Common.{◌≡◌, drop, map, List, []}
-use Rattle.xc_tree.specs.Lists.{some, every}
+use Rattle.std.proofs.Common.{◌≡◌, drop, map}
+use Rattle.xc_tree.specs.Lists.{some}
 use Rattle.xc_loop.specs.Changes.{unsettles}
 use Rattle.xc_loop.proofs.change.is_unsettled.Given as goal
 

@@ -1,5 +1,5 @@
-use Rattle.std.proofs.Common.{◌≡◌, drop, map, List, []}
-use Rattle.xc_tree.specs.Lists.{some, every}
+use Rattle.std.proofs.Common.{◌≡◌, drop, map}
+use Rattle.xc_tree.specs.Lists.{some}
 use Rattle.xc_loop.specs.Concurrency.{declares}
 use Rattle.xc_loop.proofs.concurrent.is_declared.Given as goal
 

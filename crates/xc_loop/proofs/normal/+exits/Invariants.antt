@@ -1,5 +1,4 @@
-use Rattle.std.proofs.Common.{◌≡◌, drop, map, List, []}
-use Rattle.xc_tree.specs.Lists.{some, every}
+use Rattle.std.proofs.Common.{◌≡◌, drop}
 use Rattle.xc_loop.specs.Normal.{any_exits}
 use Rattle.xc_loop.proofs.normal.+exits.Given as goal
 

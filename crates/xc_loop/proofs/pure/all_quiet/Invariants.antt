@@ -1,5 +1,5 @@
-use Rattle.std.proofs.Common.{◌≡◌, drop, map, List, []}
-use Rattle.xc_tree.specs.Lists.{some, every}
+use Rattle.std.proofs.Common.{◌≡◌, drop, map}
+use Rattle.xc_tree.specs.Lists.{every}
 use Rattle.xc_loop.specs.Purity.{is_quiet}
 use Rattle.xc_loop.proofs.pure.all_quiet.Given as goal
 

@@ -1,5 +1,4 @@
-use Rattle.std.proofs.Common.{◌≡◌, drop, map, List, []}
-use Rattle.xc_tree.specs.Lists.{some, every}
+use Rattle.std.proofs.Common.{◌≡◌, drop, []}
 use Rattle.xc_loop.specs.Purity.{purity_from}
 use Rattle.xc_loop.proofs.pure.pure_functions.Given as goal
 
