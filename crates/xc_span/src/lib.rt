@@ -1,6 +1,9 @@
 //! Where things stand in a source text.
 #![tactic(auto)]
 
+ghost use Rattle.std.specs.Prelude.{◌≡◌, ◌≤◌, ◌<◌, ◌^◌, ◌+◌, length, take};
+ghost use Rattle.xc_span.specs.Place.{line_of, column_of};
+
 /// The bytes from `start` up to `end`, counted from 0.
 #[derive(Clone, Copy, Debug, PartialEq, Eq)]
 pub struct Span {
@@ -13,4 +16,28 @@ pub struct Span {
 pub struct Pos {
     pub line: u32,
     pub col: u32,
+}
+
+impl Pos {
+    /// Where a text begins.
+    pub const FIRST: Pos = Pos { line: 1, col: 1 };
+}
+
+/// Where the byte at `at`, or the end of the text, stands. It reads the text up to there.
+pub fn position(text: &[u8], at: usize) -> Pos
+    requires within { at ≤ length text.now }
+    requires short { at + 1 < 2 ^ 32 }
+    ensures line { result.line ≡ line_of (take at text.now) }
+    ensures column { result.col ≡ column_of (take at text.now) }
+{
+    let mut pos = Pos::FIRST;
+    for b in &text[..at] {
+        if *b == b'\n' {
+            pos.line += 1;
+            pos.col = 1;
+        } else {
+            pos.col += 1;
+        }
+    }
+    pos
 }
