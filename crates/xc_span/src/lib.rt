@@ -1,7 +1,7 @@
 //! Where things stand in a source text.
 #![tactic(auto)]
 
-ghost use Rattle.std.specs.Prelude.{◌≡◌, ◌≤◌, ◌<◌, ◌^◌, ◌+◌, length, take};
+ghost use Rattle.std.specs.Prelude.{◌≡◌, ◌≤◌, ◌<◌, ◌^◌, ◌+◌, length, take, slice_range};
 ghost use Rattle.xc_span.specs.Place.{line_of, column_of};
 
 /// The bytes from `start` up to `end`, counted from 0.
@@ -16,6 +16,17 @@ pub struct Span {
 pub struct Pos {
     pub line: u32,
     pub col: u32,
+}
+
+impl Span {
+    /// Its bytes, of which those past the end of the text are none.
+    pub fn of(self, text: &[u8]) -> &[u8]
+        ensures { result.now ≡ slice_range text.now self.start self.end }
+    {
+        let end = (self.end as usize).min(text.len());
+        let start = (self.start as usize).min(end);
+        &text[start..end]
+    }
 }
 
 impl Pos {

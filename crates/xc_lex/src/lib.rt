@@ -1,0 +1,7 @@
+//! The tokens of a source text: lexical elements and directives of C99, narrower.
+#![tactic(auto)]
+
+mod bytes;
+mod front;
+mod number;
+mod token;
