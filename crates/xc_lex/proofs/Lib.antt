@@ -1,1 +1,4 @@
 pub mod Values
+pub mod Lookups
+pub mod Expansion
+pub mod Frames

@@ -1,3 +1,7 @@
 pub mod Bytes
-pub mod Numbers
 pub mod Front
+pub mod Lines
+pub mod Macros
+pub mod Numbers
+pub mod Source
+pub mod State

@@ -3,5 +3,7 @@
 
 mod bytes;
 mod front;
+mod lexer;
+mod macros;
 mod number;
 mod token;
