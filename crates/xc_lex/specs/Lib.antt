@@ -5,3 +5,4 @@ pub mod Macros
 pub mod Numbers
 pub mod Source
 pub mod State
+pub mod Steps

@@ -7,6 +7,8 @@ use Rattle.xc_lex.specs.declared.token.TokenKind.{TokenKind}
 use Rattle.xc_lex.specs.declared.token.TokenKind.TheVariants.{Name, Pragma}
 use Rattle.xc_lex.specs.declared.front.Front.{Front}
 use Rattle.xc_lex.specs.declared.front.Front.TheVariants.{End, LineEnd, Blank, Whole, Hash, Bad}
+use Rattle.xc_lex.specs.declared.lines.Directive.{Directive}
+use Rattle.xc_lex.specs.declared.lines.Directive.TheVariants.{Include, Note, Define, Unknown}
 use Rattle.xc_lex.specs.Front.{front_of, rest_front_of}
 use Rattle.xc_lex.specs.Macros.{Macros, bytes_of, is_defined, expanded}
 
@@ -20,32 +22,30 @@ pub record Words : Type 0 where
   pub stop : ℕ
   pub front : Front
 
+-- what stands at the front goes before the rest, which `more` reads behind as many further bytes
+abbrev pub words_by : Front → ℕ → List Token → (ℕ → List Token → Words) → Words
+words_by (Blank n) at found more = more (n - 1) found
+words_by (Whole kind n) at found more = more (n - 1) (found ++ token_of kind at (at + n) ∷ [])
+words_by front at found more = record { found = found; stop = at; front = front }
+
 -- the words from the bytes on that stand at `at`, behind others; the first `skip` bytes belong to what was read last
 abbrev pub words_from : ℕ → ℕ → List Token → List ℕ → Words
 words_from skip at found [] = record { found = found; stop = at; front = End }
 words_from (suc skip) at found (b ∷ bs) = words_from skip (at + 1) found bs
-words_from zero at found (b ∷ bs) = elim (front_of (b ∷ bs)) [
-    Blank n ↦ words_from (n - 1) (at + 1) found bs
-  | Whole kind n ↦ words_from (n - 1) (at + 1) (found ++ token_of kind at (at + n) ∷ []) bs
-  | End ↦ record { found = found; stop = at; front = End }
-  | LineEnd ↦ record { found = found; stop = at; front = LineEnd }
-  | Hash ↦ record { found = found; stop = at; front = Hash }
-  | Bad ↦ record { found = found; stop = at; front = Bad } ]
+words_from zero at found (b ∷ bs) = words_by (front_of (b ∷ bs)) at found (λ skip found. words_from skip (at + 1) found bs)
 
 abbrev pub words_at : List ℕ → ℕ → Words
 words_at source at = words_from 0 at [] (drop at source)
+
+abbrev pub blanks_by : Front → ℕ → (ℕ → ℕ) → ℕ
+blanks_by (Blank n) at more = more (n - 1)
+blanks_by front at more = at
 
 -- where the first byte stands that is no blank, by the fronts given
 abbrev pub blanks_from : (List ℕ → Front) → ℕ → ℕ → List ℕ → ℕ
 blanks_from front skip at [] = at
 blanks_from front (suc skip) at (b ∷ bs) = blanks_from front skip (at + 1) bs
-blanks_from front zero at (b ∷ bs) = elim (front (b ∷ bs)) [
-    Blank n ↦ blanks_from front (n - 1) (at + 1) bs
-  | Whole kind n ↦ at
-  | End ↦ at
-  | LineEnd ↦ at
-  | Hash ↦ at
-  | Bad ↦ at ]
+blanks_from front zero at (b ∷ bs) = blanks_by (front (b ∷ bs)) at (λ skip. blanks_from front skip (at + 1) bs)
 
 abbrev pub past_blanks : List ℕ → ℕ → ℕ
 past_blanks source at = blanks_from front_of 0 at (drop at source)
@@ -97,16 +97,23 @@ include_at source ms at = rest_line (rest_front_of (drop (past_rest source at) s
 abbrev pub pragma_at : List ℕ → Macros → ℕ → ℕ → Line
 pragma_at source ms hash at = rest_line (rest_front_of (drop (past_rest source at) source)) ms (token_of Pragma hash (past_rest source at) ∷ []) (past_rest source at)
 
--- the directive of this name, which ends at `at`
-abbrev pub named : List ℕ → List ℕ → Macros → ℕ → ℕ → Line
-named name source ms hash at =
-    if bytes_eq name (codes "include") then include_at source ms at
-    else if bytes_eq name (codes "pragma") then pragma_at source ms hash at
-    else if bytes_eq name (codes "define") then define_at source ms hash at
-    else bad ms [] hash
+-- the name of a directive
+abbrev pub directive_of : List ℕ → Directive
+directive_of name =
+    if bytes_eq name (codes "include") then Include
+    else if bytes_eq name (codes "pragma") then Note
+    else if bytes_eq name (codes "define") then Define
+    else Unknown
+
+-- the directive whose name ends at `at`
+abbrev pub named : Directive → List ℕ → Macros → ℕ → ℕ → Line
+named Include source ms hash at = include_at source ms at
+named Note source ms hash at = pragma_at source ms hash at
+named Define source ms hash at = define_at source ms hash at
+named Unknown source ms hash at = bad ms [] hash
 
 abbrev pub directive_by : Front → List ℕ → Macros → ℕ → ℕ → Line
-directive_by (Whole Name n) source ms hash at = named (slice_range source at (at + n)) source ms hash (at + n)
+directive_by (Whole Name n) source ms hash at = named (directive_of (slice_range source at (at + n))) source ms hash (at + n)
 directive_by front source ms hash at = bad ms [] hash
 
 abbrev pub directive_at : List ℕ → Macros → ℕ → Line

@@ -1,12 +1,10 @@
 -- The tokens of a text, and its first fault.
-use Rattle.std.specs.Prelude.{◌≡◌, ◌≤◌, ℕ, ◌+◌, ◌^◌, List, [], ◌∷◌, ◌++◌, length, drop, Bool, true, false, if◌then◌else◌, nat_le, Option, Some, None, slice_get}
+use Rattle.std.specs.Prelude.{◌≡◌, ◌≤◌, ◌<◌, ℕ, ◌+◌, ◌^◌, List, [], ◌∷◌, ◌++◌, length, drop, Bool, true, false, if◌then◌else◌, nat_le, Option, Some, None, slice_get}
 use Rattle.std.specs.Option.{option_map}
 use Rattle.xc_span.specs.Place.{IsPosition}
 use Rattle.xc_lex.specs.declared.token.Token.{Token}
-use Rattle.xc_lex.specs.declared.front.Front.TheVariants.{LineEnd}
 use Rattle.xc_lex.specs.declared.lexer.LexFault.{LexFault}
 use Rattle.xc_lex.specs.declared.lexer.LexFault.TheVariants.{NoMemory, At}
-use Rattle.xc_lex.specs.Front.{front_of}
 use Rattle.xc_lex.specs.Macros.{Macros}
 use Rattle.xc_lex.specs.Lines.{Line, line_at}
 
@@ -20,12 +18,12 @@ fault_of before line =
     if nat_le (length (before ++ line.tokens)) limit then (if line.is_bad then Some line.stop else None)
     else option_map (λ t. t.at.start) (slice_get (before ++ line.tokens) limit)
 
--- a line begins at `at`, and these macros and tokens stand before it
+-- a line begins at `at`, and these macros and tokens stand before it. A line without a fault stops at the text's end or at a line feed, behind which the next one begins
 pub data Reached (source : List ℕ) : ℕ → Macros → List Token → Type 0 where
   first : Reached source 0 [] []
   next : {at : ℕ} {ms : Macros} {ts : List Token} → Reached source at ms ts
       → fault_of ts (line_at source ms at) ≡ None
-      → front_of (drop (line_at source ms at).stop source) ≡ LineEnd
+      → (line_at source ms at).stop < length source
       → Reached source ((line_at source ms at).stop + 1) (line_at source ms at).macros (ts ++ (line_at source ms at).tokens)
 
 -- the tokens of the text, whose last line ends where it does

@@ -4,6 +4,7 @@
 mod bytes;
 mod front;
 mod lexer;
+mod lines;
 mod macros;
 mod number;
 mod token;
