@@ -71,7 +71,7 @@ now_cost_once source ms opened t i names shut level =
 pub differs : (i j : ℕ) (known : List ℕ) → is_in i known ≡ false → is_in j known ≡ true → j ≡ i → ⊥
 differs i j known h k e = let same : is_in i known ≡ true = subst (λ (n : ℕ). is_in n known ≡ true) e k in cc
 
-or_right : (a b : Bool) → b ≡ true → (a || b) ≡ true
+pub or_right : (a b : Bool) → b ≡ true → (a || b) ≡ true
 or_right true b h = refl
 or_right false b h = h
 

@@ -4,3 +4,7 @@ pub mod Expansion
 pub mod Frames
 pub mod Scanning
 pub mod Reading
+pub mod Defining
+pub mod Directives
+pub mod Faults
+pub mod Sources

@@ -2,6 +2,7 @@
 use Rattle.std.specs.Prelude.{◌≡◌, ◌≤◌, ◌<◌, ℕ, zero, suc, ◌+◌, ◌^◌, List, [], ◌∷◌, ◌++◌, length, drop, Bool, true, false, Option, Some, None}
 use Rattle.xc_span.specs.declared.Span.{Span}
 use Rattle.xc_lex.specs.declared.token.Token.{Token}
+use Rattle.xc_lex.specs.declared.token.TokenKind.TheVariants.{Pragma}
 use Rattle.xc_lex.specs.declared.macros.Macro.{Macro}
 use Rattle.xc_lex.specs.declared.macros.Stop.{Stop}
 use Rattle.xc_lex.specs.declared.macros.Stop.TheVariants.{NoMemory, At}
@@ -11,7 +12,7 @@ use Rattle.xc_lex.specs.declared.lines.Part.{Part}
 use Rattle.xc_lex.specs.declared.lines.Part.TheVariants.{Tokens, Rest}
 use Rattle.xc_lex.specs.Front.{front_of, rest_front_of}
 use Rattle.xc_lex.specs.Macros.{Macros, replaced, expanded}
-use Rattle.xc_lex.specs.Lines.{Words, words_at, words_from, Line, good, bad, rest_line, body_line}
+use Rattle.xc_lex.specs.Lines.{Words, words_at, words_from, Line, good, bad, rest_line, body_line, pragma_at, token_of}
 use Rattle.xc_lex.specs.Source.{fault_of}
 use Rattle.xc_lex.specs.State.{all_of, visible, IsKept, Passes}
 
@@ -84,3 +85,22 @@ pub record BodyEnds (words : Words) (body : List Token) (at : ℕ) : Type 0 wher
 abbrev pub BodyStops : Words → Stop → Type 0
 BodyStops words NoMemory = Unit {0}
 BodyStops words (At place) = (ms : Macros) → (name : List ℕ) → body_line words.front ms name words.found words.stop ≡ bad ms [] place
+
+-- a directive was read, with these tokens
+pub record DirectiveRead (source : List ℕ) (line : Line) (ts : List Token) (at : ℕ) (ms : List Macro) (opened blank : List Bool) : Type 0 where
+  pub idle : IsIdle source ms opened blank
+  pub same : line ≡ good (all_of source ms) ts at
+
+abbrev pub DirectiveStops : Line → Macros → Stop → Type 0
+DirectiveStops line ms NoMemory = Unit {0}
+DirectiveStops line ms (At place) = line ≡ bad ms [] place
+
+-- a pragma was read, whatever macros are known
+pub record PragmaRead (source : List ℕ) (hash start at : ℕ) (before after : List Token) : Type 0 where
+  pub same : (ms : Macros) → pragma_at source ms hash start ≡ good ms (token_of Pragma hash at ∷ []) at
+  pub told : after ≡ before ++ token_of Pragma hash at ∷ []
+  pub few : length after ≤ 2 ^ 20
+
+abbrev pub PragmaStops : List ℕ → ℕ → ℕ → List Token → Stop → Type 0
+PragmaStops source hash start before NoMemory = Unit {0}
+PragmaStops source hash start before (At place) = (ms : Macros) → fault_of before (pragma_at source ms hash start) ≡ Some place

@@ -8,3 +8,7 @@ mod lines;
 mod macros;
 mod number;
 mod token;
+
+pub use lexer::{LexFault, Tokens, lex};
+pub use number::{Number, read_number};
+pub use token::{Token, TokenKind};

@@ -1,6 +1,6 @@
 //! Macros and their replacement.
 
-ghost use Rattle.std.specs.Prelude.{◌≡◌, ◌≤◌, ◌<◌, ◌^◌, ◌+◌, ◌++◌, ◌∷◌, [], length, ℕ, List, reverse, IfOk, IfErr, OnOk, IsTrue, MatchOption, slice_set, false, drop};
+ghost use Rattle.std.specs.Prelude.{◌≡◌, ◌↔◌, ◌≤◌, ◌<◌, ◌^◌, ◌+◌, ◌++◌, ◌∷◌, [], length, ℕ, List, reverse, IfOk, IfErr, OnOk, IsTrue, MatchOption, slice_set, false, drop};
 ghost use Rattle.xc_lex.specs.Macros.{bytes_of, replaced};
 ghost use Rattle.xc_lex.specs.State.{all_of, visible, index_of, AreApart, tokens_of, is_set, is_in, NamesNone, Names, NamesBlank, AllNameBlank, NextOf, Entered, Replaced, FlagsFit, IsKept, now_replaced, pending, unwound, AreWithin, now_cost, frames_cost, TurnFits, Passes};
 
@@ -72,6 +72,39 @@ fn index_of(entries: &[Macro], source: &[u8], name: &[u8]) -> usize
 }
 
 impl Macros {
+    /// No macros.
+    pub fn new(alloc: Global) -> Macros
+        ensures entries { result.entries.items ≡ [] }
+        ensures opened { result.opened.items ≡ [] }
+        ensures blank { result.blank.items ≡ [] }
+    {
+        Macros {
+            entries: Vec::new(alloc),
+            opened: Vec::new(alloc),
+            blank: Vec::new(alloc),
+        }
+    }
+
+    /// Whether no macro has the name.
+    pub fn is_new(&self, source: &[u8], name: &[u8]) -> bool
+        ensures { IsTrue result ↔ (index_of source.now self.now.entries.items name.now ≡ length self.now.entries.items) }
+    {
+        index_of(&self.entries, source, name) == self.entries.len()
+    }
+
+    /// Adds a macro.
+    pub fn define(&mut self, name: Span, body: Vec<Token>) -> Result<(), Stop>
+        ensures entries { IfOk result (λ _. self.new.entries.items ≡ self.old.entries.items ++ record { name = name; body = body } ∷ []) }
+        ensures opened { IfOk result (λ _. self.new.opened.items ≡ self.old.opened.items ++ false ∷ []) }
+        ensures blank { IfOk result (λ _. self.new.blank.items ≡ self.old.blank.items ++ false ∷ []) }
+        ensures err { IfErr result (λ e. e ≡ Stop.NoMemory) }
+    {
+        self.entries.push(Macro { name, body })?;
+        self.opened.push(false)?;
+        self.blank.push(false)?;
+        Ok(())
+    }
+
     /// The number of the macro that a token names.
     fn number_of(&self, source: &[u8], word: Token) -> Option<usize>
         ensures { MatchOption result (NamesNone source.now self.now.entries.items word) (λ i. Names source.now self.now.entries.items word i) }

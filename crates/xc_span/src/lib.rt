@@ -34,15 +34,14 @@ impl Pos {
     pub const FIRST: Pos = Pos { line: 1, col: 1 };
 }
 
-/// Where the byte at `at`, or the end of the text, stands. It reads the text up to there.
+/// Where the byte at `at` stands, or the end of the text where that comes before. It reads the text up to there.
 pub fn position(text: &[u8], at: usize) -> Pos
-    requires within { at ≤ length text.now }
-    requires short { at + 1 < 2 ^ 32 }
+    requires { length text.now + 1 < 2 ^ 32 }
     ensures line { result.line ≡ line_of (take at text.now) }
     ensures column { result.col ≡ column_of (take at text.now) }
 {
     let mut pos = Pos::FIRST;
-    for b in &text[..at] {
+    for b in &text[..at.min(text.len())] {
         if *b == b'\n' {
             pos.line += 1;
             pos.col = 1;

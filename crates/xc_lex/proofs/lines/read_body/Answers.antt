@@ -17,6 +17,7 @@ words-preserved-in-Blank c =
     let moves = c.in-Blank.ensures.moves in
     let within : c.in-Blank.n ≤ length (drop at source) = omega (arith, size, moves.1) in
     record {
+      after = omega (arith, c.words.invariant.after);
       within = omega (arith, within, rest, c.words.invariant.within);
       same = c.words.invariant.same ∙ words_blank_at source at c.words.words.items c.in-Blank.n front moves.0 within;
     }
@@ -34,6 +35,7 @@ words-preserved c =
     let next = words_whole_at source at c.words.words.items c.in-Whole.kind c.in-Whole.n front moves.0 within in
     let pushed = c.in_ok-push-in-Whole.ensures.items in
     record {
+      after = omega (arith, c.words.invariant.after);
       within = omega (arith, within, rest, c.words.invariant.within);
       same = c.words.invariant.same ∙ next ∙ ap (λ t. words_from 0 (at + c.in-Whole.n) (c.words.words.items ++ t ∷ []) (drop (at + c.in-Whole.n) source)) (sym c.token_of.ensures) ∙ ap (λ ts. words_from 0 (at + c.in-Whole.n) ts (drop (at + c.in-Whole.n) source)) (sym pushed);
     }

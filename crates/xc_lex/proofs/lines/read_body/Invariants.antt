@@ -4,6 +4,7 @@ use Rattle.xc_lex.proofs.lines.read_body.Given as goal
 
 abbrev pub invariant-words : goal.invariant-words
 invariant-words l = record {
+  after : l.start ≤ l.at;
   within : l.at ≤ length l.source;
   same : words_at l.source l.start ≡ words_from 0 l.at l.words.items (drop l.at l.source);
 }

@@ -18,6 +18,7 @@ words-preserved-in-Blank c =
     let within : c.in-Blank.n ≤ length (drop at source) = omega (arith, size, moves.1) in
     let so_far = c.words.invariant in
     record {
+      after = omega (arith, so_far.after);
       within = omega (arith, within, rest, so_far.within);
       entries = so_far.entries;
       idle = so_far.idle;
@@ -41,6 +42,7 @@ words-preserved c =
     let kept = SoFar-replaced source entries c.words.macros.entries.items c.words.macros.opened.items c.words.macros.blank.items c.replace.new.self.opened.items c.replace.new.self.blank.items c.args.start c.args.tokens.now.items at c.words.fresh c.words.tokens.items c.replace.new.tokens.items c.in-Whole.kind c.in-Whole.n c.token_of.result
         so_far.entries c.token_of.ensures front moves.0 within so_far.idle done so_far.so_far in
     record {
+      after = omega (arith, so_far.after);
       within = omega (arith, within, rest, so_far.within);
       entries = c.in_ok-replace-in-Whole.ensures.entries ∙ so_far.entries;
       idle = kept.0;

@@ -4,6 +4,7 @@ use Rattle.xc_lex.proofs.lines.read_words.Given as goal
 
 abbrev pub invariant-words : goal.invariant-words
 invariant-words l = record {
+  after : l.start ≤ l.at;
   within : l.at ≤ length l.source;
   entries : l.macros.entries.items ≡ l.fn.macros.entries.items;
   idle : IsIdle l.source l.fn.macros.entries.items l.macros.opened.items l.macros.blank.items;

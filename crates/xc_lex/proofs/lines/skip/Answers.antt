@@ -15,6 +15,7 @@ blanks-preserved c =
     let moves = c.in-Blank.ensures.moves in
     let within : c.in-Blank.n ≤ length (drop at source) = omega (arith, size, moves.1) in
     record {
+      after = omega (arith, c.blanks.invariant.after);
       within = omega (arith, within, rest, c.blanks.invariant.within);
       same = c.blanks.invariant.same ∙ blanks_blank_at (front_in c.args.part) source at c.in-Blank.n front moves.0 within;
     }

@@ -5,6 +5,7 @@ use Rattle.xc_lex.proofs.lines.skip.Given as goal
 
 abbrev pub invariant-blanks : goal.invariant-blanks
 invariant-blanks l = record {
+  after : l.from ≤ l.at;
   within : l.at ≤ length l.source;
   same : blanks_from (front_in l.part) 0 l.from (drop l.from l.source) ≡ blanks_from (front_in l.part) 0 l.at (drop l.at l.source);
 }
