@@ -1,12 +1,12 @@
 -- A further macro.
-use Rattle.std.proofs.Common.{◌≡◌, ◌≤◌, ◌<◌, ◌^◌, ℕ, zero, suc, ◌+◌, ◌-◌, List, [], ◌∷◌, ◌++◌, length, map, drop, Bool, true, false, if◌then◌else◌, ◌==◌, ◌||◌, Option, Some, None, is_some, refl, sym, ap, ◌∙◌, subst, arith, append_assoc, length-append}
+use Rattle.std.proofs.Common.{◌≡◌, ◌≤◌, ◌<◌, ℕ, zero, suc, ◌+◌, List, [], ◌∷◌, ◌++◌, length, Bool, true, false, if◌then◌else◌, ◌==◌, ◌||◌, is_some, refl, sym, ap, ◌∙◌, subst, arith, length-append}
 use Rattle.std.proofs.lemmas.List.{map-append}
 use Rattle.std.specs.Str.{bytes_eq}
 use Rattle.std.proofs.lemmas.Slice.Eq.{bytes_eq-Decides}
 use Rattle.xc_lex.specs.declared.token.Token.{Token}
 use Rattle.xc_lex.specs.declared.macros.Macro.{Macro}
-use Rattle.xc_lex.specs.Macros.{Macros, bytes_of, body_of, is_defined}
-use Rattle.xc_lex.specs.State.{entry_of, all_of, visible, index_of, AreApart, tokens_of, is_set, is_in, Names, AreNamesOf, AreBlank, FlagsFit, IsKept}
+use Rattle.xc_lex.specs.Macros.{bytes_of, is_defined}
+use Rattle.xc_lex.specs.State.{entry_of, all_of, visible, index_of, AreApart, tokens_of, is_set, is_in, AreNamesOf, AreBlank}
 use Rattle.xc_lex.specs.Steps.{IsIdle}
 use Rattle.std.proofs.lemmas.Bool.{eq-eqb}
 use Rattle.xc_lex.proofs.Expansion.{or_right}
@@ -31,25 +31,26 @@ index_of-push : (source : List ℕ) (ms : List Macro) (m : Macro) (name : List �
 index_of-push source [] m name h = absurd (omega arith)
 index_of-push source (x ∷ ms) m name h =
     elim (bytes_eq (bytes_of source x.name) name) as (λ v. (if v then 0 else suc (index_of source ms name)) < suc (length ms) → (if v then 0 else suc (index_of source (ms ++ m ∷ []) name)) ≡ (if v then 0 else suc (index_of source ms name)))
-      [ true ↦ λ h. refl | false ↦ λ h. ap suc (index_of-push source ms m name (omega arith)) ] h
+    [ true ↦ λ h. refl | false ↦ λ h. ap suc (index_of-push source ms m name (omega arith)) ] h
 
 index_of-push_absent : (source : List ℕ) (ms : List Macro) (m : Macro) (name : List ℕ) → index_of source ms name ≡ length ms → bytes_eq (bytes_of source m.name) name ≡ false → index_of source (ms ++ m ∷ []) name ≡ length (ms ++ m ∷ [])
 index_of-push_absent source [] m name h e = rw e refl
 index_of-push_absent source (x ∷ ms) m name h e =
     elim (bytes_eq (bytes_of source x.name) name) as (λ v. (if v then 0 else suc (index_of source ms name)) ≡ suc (length ms) → (if v then 0 else suc (index_of source (ms ++ m ∷ []) name)) ≡ suc (length (ms ++ m ∷ [])))
-      [ true ↦ λ h. absurd (omega arith) | false ↦ λ h. ap suc (index_of-push_absent source ms m name (omega arith) e) ] h
+    [ true ↦ λ h. absurd (omega arith) | false ↦ λ h. ap suc (index_of-push_absent source ms m name (omega arith) e) ] h
 
 bytes_eq_swap : (a b : List ℕ) → bytes_eq a b ≡ false → bytes_eq b a ≡ false
 bytes_eq_swap a b h =
     elim (bytes_eq b a) as (λ v. bytes_eq b a ≡ v → v ≡ false)
-      [ true ↦ λ e. let same : b ≡ a = (bytes_eq-Decides b a).0 e in let yes : bytes_eq a b ≡ true = (bytes_eq-Decides a b).1 (sym same) in absurd (cc) | false ↦ λ e. refl ] refl
+    [ true ↦ λ e. let same : b ≡ a = (bytes_eq-Decides b a).0 e in let yes : bytes_eq a b ≡ true = (bytes_eq-Decides a b).1 (sym same) in absurd (cc) | false ↦ λ e. refl ] refl
 
 AreApart-push : (source : List ℕ) (ms : List Macro) (m : Macro) → AreApart source ms → index_of source ms (bytes_of source m.name) ≡ length ms → AreApart source (ms ++ m ∷ [])
 AreApart-push source [] m a h = (refl, tt)
 AreApart-push source (x ∷ ms) m a h =
-    elim (bytes_eq (bytes_of source x.name) (bytes_of source m.name)) as (λ v. bytes_eq (bytes_of source x.name) (bytes_of source m.name) ≡ v → (if v then 0 else suc (index_of source ms (bytes_of source m.name))) ≡ suc (length ms) → AreApart source (x ∷ (ms ++ m ∷ [])))
-      [ true ↦ λ e h. absurd (omega arith)
-      | false ↦ λ e h. (index_of-push_absent source ms m (bytes_of source x.name) a.0 (bytes_eq_swap (bytes_of source x.name) (bytes_of source m.name) e), AreApart-push source ms m a.1 (omega arith)) ] refl h
+    elim (bytes_eq (bytes_of source x.name) (bytes_of source m.name)) as (λ v. bytes_eq (bytes_of source x.name) (bytes_of source m.name) ≡ v → (if v then 0 else suc (index_of source ms (bytes_of source m.name))) ≡ suc (length ms) → AreApart source (x ∷ (ms ++ m ∷ []))) [
+      | true ↦ λ e h. absurd (omega arith)
+      | false ↦ λ e h. (index_of-push_absent source ms m (bytes_of source x.name) a.0 (bytes_eq_swap (bytes_of source x.name) (bytes_of source m.name) e), AreApart-push source ms m a.1 (omega arith))
+    ] refl h
 
 visible-push : (source : List ℕ) (ms : List Macro) (m : Macro) (opened : List Bool) → length opened ≡ length ms → visible source (ms ++ m ∷ []) (opened ++ false ∷ []) ≡ visible source ms opened ++ entry_of source m ∷ []
 visible-push source [] m [] h = refl
@@ -87,10 +88,11 @@ head i known = ap (λ v. v || is_in i known) (eq-eqb i i refl)
 
 AreBlank-push : (source : List ℕ) (ms : List Macro) (m : Macro) (known : List ℕ) → ((i : ℕ) → is_in i known ≡ true → i < length ms) → AreBlank source ms known → AreBlank source (ms ++ m ∷ []) known
 AreBlank-push source ms m [] within h = tt
-AreBlank-push source ms m (i ∷ known) within h =
-    ( h.0
-    , subst (λ (ts : List Token). AreNamesOf source (ms ++ m ∷ []) known ts) (sym (tokens_of-push ms m i (within i (head i known)))) (AreNamesOf-push source ms m known (tokens_of ms i) h.1)
-    , AreBlank-push source ms m known (λ j of_known. within j (or_right (i == j) (is_in j known) of_known)) h.2 )
+AreBlank-push source ms m (i ∷ known) within h = (
+  h.0,
+  subst (λ (ts : List Token). AreNamesOf source (ms ++ m ∷ []) known ts) (sym (tokens_of-push ms m i (within i (head i known)))) (AreNamesOf-push source ms m known (tokens_of ms i) h.1),
+  AreBlank-push source ms m known (λ j of_known. within j (or_right (i == j) (is_in j known) of_known)) h.2,
+)
 
 pub IsIdle-push : (source : List ℕ) (ms : List Macro) (m : Macro) (opened blank : List Bool) → IsIdle source ms opened blank → index_of source ms (bytes_of source m.name) ≡ length ms → IsIdle source (ms ++ m ∷ []) (opened ++ false ∷ []) (blank ++ false ∷ [])
 IsIdle-push source ms m opened blank h new =

@@ -1,17 +1,16 @@
 -- What directives do.
-use Rattle.std.proofs.Common.{◌≡◌, ◌≤◌, ◌<◌, ◌^◌, ℕ, zero, suc, ◌+◌, ◌-◌, List, [], ◌∷◌, ◌++◌, length, map, drop, Bool, true, false, if◌then◌else◌, Option, Some, None, is_some, refl, sym, ap, ◌∙◌, subst, arith, append_assoc, length-append}
-use Rattle.std.proofs.lemmas.List.{map-append, append-nil}
+use Rattle.std.proofs.Common.{◌≡◌, ◌<◌, ℕ, ◌+◌, List, [], ◌∷◌, ◌++◌, length, drop, Bool, false, if◌then◌else◌, sym, ap, ◌∙◌, subst, arith}
+use Rattle.std.proofs.lemmas.List.{map-append}
 use Rattle.std.specs.List.{slice_range}
 use Rattle.xc_lex.specs.declared.token.Token.{Token}
 use Rattle.xc_lex.specs.declared.token.TokenKind.TheVariants.{Name}
 use Rattle.xc_lex.specs.declared.macros.Macro.{Macro}
 use Rattle.xc_lex.specs.declared.macros.Stop.{Stop}
 use Rattle.xc_lex.specs.declared.macros.Stop.TheVariants.{NoMemory, At}
-use Rattle.xc_lex.specs.declared.front.Front.{Front}
-use Rattle.xc_lex.specs.declared.front.Front.TheVariants.{End, LineEnd, Blank, Whole, Hash, Bad}
-use Rattle.xc_lex.specs.Front.{front_of, rest_front_of}
-use Rattle.xc_lex.specs.Macros.{Macros, bytes_of, is_defined}
-use Rattle.xc_lex.specs.Lines.{Line, good, bad, words_at, body_line, body_at, past_blanks, define_by, define_at, directive_by, directive_at, directive_of, named}
+use Rattle.xc_lex.specs.declared.front.Front.TheVariants.{Whole}
+use Rattle.xc_lex.specs.Front.{front_of}
+use Rattle.xc_lex.specs.Macros.{Macros, bytes_of}
+use Rattle.xc_lex.specs.Lines.{Line, good, bad, words_at, body_at, past_blanks, define_by, define_at, directive_by, directive_at, directive_of, named}
 use Rattle.xc_lex.specs.State.{entry_of, all_of, index_of}
 use Rattle.xc_lex.specs.Steps.{IsIdle, BodyEnds, BodyStops, DirectiveRead, DirectiveStops}
 use Rattle.xc_lex.proofs.Defining.{is_defined-new, is_defined-known, index_of-le, IsIdle-push}
@@ -49,8 +48,8 @@ pub define_read : (source : List ℕ) (ms : List Macro) (opened blank : List Boo
 define_read source ms opened blank hash start at n stop m h new body name idle = record {
   idle = IsIdle-push source ms m opened blank idle (subst (λ (bs : List ℕ). index_of source ms bs ≡ length ms) (sym name) new);
   same = define_new source ms hash start at n h new ∙ body.ends (all_of source ms) (slice_range source at (at + n))
-    ∙ ap (λ bs. good (all_of source ms ++ (bs, m.body.items) ∷ []) [] stop) (sym name)
-    ∙ ap (λ ns. good ns [] stop) (sym (map-append (entry_of source) ms (m ∷ [])));
+      ∙ ap (λ bs. good (all_of source ms ++ (bs, m.body.items) ∷ []) [] stop) (sym name)
+      ∙ ap (λ ns. good ns [] stop) (sym (map-append (entry_of source) ms (m ∷ [])));
 }
 
 pub define_stops : (source : List ℕ) (ms : List Macro) (hash start at n : ℕ) (stop : Stop) → DefinesAt source start at n → index_of source ms (slice_range source at (at + n)) ≡ length ms → BodyStops (words_at source (at + n)) stop

@@ -1,9 +1,8 @@
 -- One step of the expansion.
-use Rattle.std.proofs.Common.{◌≡◌, ◌≤◌, ◌<◌, ℕ, zero, suc, ◌+◌, ◌-◌, List, [], ◌∷◌, ◌++◌, length, map, sum_by, Bool, true, false, ◌==◌, ◌||◌, if◌then◌else◌, Option, Some, None, refl, sym, ap, ◌∙◌, subst, arith, rules, get_or}
+use Rattle.std.proofs.Common.{◌≡◌, ◌≤◌, ◌<◌, ℕ, zero, suc, ◌+◌, List, [], ◌∷◌, length, sum_by, Bool, true, false, ◌==◌, ◌||◌, Some, None, refl, sym, ap, ◌∙◌, subst, arith}
 use Rattle.std.proofs.Math.ListN.{set, length-set}
-use Rattle.std.specs.List.{flat_map, list_any}
+use Rattle.std.specs.List.{flat_map}
 use Rattle.std.proofs.lemmas.Bool.{eqb-true}
-use Rattle.std.specs.Option.{option_map_or}
 use Rattle.xc_span.specs.declared.Span.{Span}
 use Rattle.xc_lex.specs.declared.token.Token.{Token}
 use Rattle.xc_lex.specs.declared.token.TokenKind.TheVariants.{Name}
@@ -48,7 +47,7 @@ now_replaced_once source at ms opened t i names shut level =
     let fuel = length-visible-open source ms opened (index_of source ms name) within room closed in
     let step = replaced_once source at (length (visible source ms (set opened (index_of source ms name) true))) (visible source ms opened) _ t _ body rest in
     let whole : now_replaced source at ms opened t ≡ flat_map (now_replaced source at ms (set opened (index_of source ms name) true)) (tokens_of ms (index_of source ms name)) =
-        ap (λ n. replaced source at n (visible source ms opened) t) (sym fuel) ∙ step in
+    ap (λ n. replaced source at n (visible source ms opened) t) (sym fuel) ∙ step in
     subst (λ (k : ℕ). now_replaced source at ms opened t ≡ flat_map (now_replaced source at ms (set opened k true)) (tokens_of ms k)) j whole
 
 pub now_cost_once : (source : List ℕ) (ms : List Macro) (opened : List Bool) (t : Token) (i : ℕ) → Names source ms t i → is_set opened i ≡ false → length opened ≡ length ms
@@ -64,7 +63,7 @@ now_cost_once source ms opened t i names shut level =
     let fuel = length-visible-open source ms opened (index_of source ms name) within room closed in
     let step = cost_once source (length (visible source ms (set opened (index_of source ms name) true))) (visible source ms opened) _ t _ body rest in
     let whole : now_cost source ms opened t ≡ 2 + sum_by (now_cost source ms (set opened (index_of source ms name) true)) (tokens_of ms (index_of source ms name)) =
-        ap (λ n. cost source n (visible source ms opened) t) (sym fuel) ∙ step in
+    ap (λ n. cost source n (visible source ms opened) t) (sym fuel) ∙ step in
     subst (λ (k : ℕ). now_cost source ms opened t ≡ 2 + sum_by (now_cost source ms (set opened k true)) (tokens_of ms k)) j whole
 
 -- what is not among some numbers differs from each of them
@@ -85,14 +84,15 @@ pub replaced-blank : (source : List ℕ) (at : Span) (ms : List Macro) (known : 
     → Names source ms t n → is_in n known ≡ true → now_replaced source at ms opened t ≡ []
 replaced-blank source at ms [] opened t n blank closed level names member = absurd (cc)
 replaced-blank source at ms (i ∷ known) opened t n blank closed level names member =
-    elim (i == n) as (λ v. (i == n) ≡ v → (v || is_in n known) ≡ true → now_replaced source at ms opened t ≡ [])
-      [ true ↦ λ e m.
+    elim (i == n) as (λ v. (i == n) ≡ v → (v || is_in n known) ≡ true → now_replaced source at ms opened t ≡ []) [
+      | true ↦ λ e m.
           let same : i ≡ n = eqb-true i n e in
           let named : Names source ms t i = subst (λ (k : ℕ). Names source ms t k) (sym same) names in
           let shut : is_set opened i ≡ false = closed i (subst (λ (k : ℕ). is_in k (i ∷ known) ≡ true) (sym same) member) in
           let left : (j : ℕ) → is_in j known ≡ true → is_set (set opened i true) j ≡ false =
-              λ j h. is_set-set_other opened i j true (differs i j known blank.0 h) ∙ closed j (or_right (i == j) (is_in j known) h) in
+          λ j h. is_set-set_other opened i j true (differs i j known blank.0 h) ∙ closed j (or_right (i == j) (is_in j known) h) in
           let kept : length (set opened i true) ≡ length ms = simp length-set level in
           now_replaced_once source at ms opened t i named shut level
           ∙ flat_map-names source ms known _ (tokens_of ms i) blank.1 (λ u k of_u h. replaced-blank source at ms known (set opened i true) u k blank.2 left kept of_u h)
-      | false ↦ λ e m. replaced-blank source at ms known opened t n blank.2 (λ j h. closed j (or_right (i == j) (is_in j known) h)) level names m ] refl member
+      | false ↦ λ e m. replaced-blank source at ms known opened t n blank.2 (λ j h. closed j (or_right (i == j) (is_in j known) h)) level names m
+    ] refl member

@@ -1,5 +1,5 @@
 -- Faults of lines.
-use Rattle.std.proofs.Common.{◌≡◌, ◌≤◌, ◌<◌, ◌^◌, ℕ, zero, suc, ◌+◌, ◌-◌, List, [], ◌∷◌, ◌++◌, length, map, drop, Bool, true, false, if◌then◌else◌, nat_le, Option, Some, None, refl, sym, ap, ◌∙◌, subst, arith, append_assoc, length-append}
+use Rattle.std.proofs.Common.{◌≡◌, ◌≤◌, ◌<◌, ◌^◌, ℕ, zero, suc, List, [], ◌∷◌, ◌++◌, length, Bool, true, false, if◌then◌else◌, nat_le, Option, Some, None, refl, sym, ap, ◌∙◌, arith, append_assoc, length-append}
 use Rattle.std.proofs.lemmas.List.{append-nil}
 use Rattle.std.proofs.lemmas.Grind.{flat_map-append}
 use Rattle.std.proofs.lemmas.Bool.{le-leb, leb-true}
@@ -13,10 +13,10 @@ use Rattle.xc_lex.specs.declared.macros.Stop.TheVariants.{NoMemory, At}
 use Rattle.xc_lex.specs.declared.front.Front.{Front}
 use Rattle.xc_lex.specs.declared.front.Front.TheVariants.{End, LineEnd, Blank, Whole, Hash, Bad}
 use Rattle.xc_lex.specs.Macros.{Macros, bytes_of, without, replacement, replaced, expanded}
-use Rattle.xc_lex.specs.Lines.{Line, good, bad, Words, words_at, line_by, line_at, hash_line, directive_at}
+use Rattle.xc_lex.specs.Lines.{Line, good, bad, words_at, line_by, line_at, hash_line, directive_at}
 use Rattle.xc_lex.specs.Source.{fault_of}
-use Rattle.xc_lex.specs.State.{all_of, Passes}
-use Rattle.xc_lex.specs.Steps.{IsIdle, is_nil, AllWords, TooMany, WordsStop, LineRead, LineStops, DirectiveRead, DirectiveStops}
+use Rattle.xc_lex.specs.State.{all_of}
+use Rattle.xc_lex.specs.Steps.{IsIdle, is_nil, AllWords, WordsStop, LineRead, LineStops, DirectiveRead, DirectiveStops}
 
 -- by the count of the tokens
 fault_by : Bool → List Token → Line → Option ℕ
@@ -56,7 +56,7 @@ pub replaced-at : (source : List ℕ) (at : Span) (n : ℕ) (ms : Macros) (t : T
 replaced-at source at zero ms t = (refl, tt)
 replaced-at source at (suc n) ms t =
     elim (replacement source ms t) as (λ v. AllAt at.start (option_map_or (λ body. flat_map (λ u. replaced source at n (without (bytes_of source t.text) ms) u) body) v (record t { at = at } ∷ [])))
-      [ None ↦ (refl, tt) | Some body ↦ AllAt-flat_map at.start (λ u. replaced source at n (without (bytes_of source t.text) ms) u) body (λ u. replaced-at source at n (without (bytes_of source t.text) ms) u) ]
+    [ None ↦ (refl, tt) | Some body ↦ AllAt-flat_map at.start (λ u. replaced source at n (without (bytes_of source t.text) ms) u) body (λ u. replaced-at source at n (without (bytes_of source t.text) ms) u) ]
 
 -- the token that passes the limit is one of those in the middle
 pub place_at : (xs ys zs : List Token) (i p : ℕ) → length xs ≤ i → i < length (xs ++ ys) → AllAt p ys → option_map (λ t. t.at.start) (slice_get ((xs ++ ys) ++ zs) i) ≡ Some p
@@ -89,8 +89,8 @@ WordsStop-line source ms start before (At place) h =
     let old = before ++ expanded source all h.found in
     let some = ap is_nil h.words ∙ some_found h.found h.word h.later in
     let tokens : before ++ (line_at source all start).tokens ≡ (old ++ new) ++ expanded source all h.later =
-        ap (λ ts. before ++ ts) (line_tokens ws.front source all ws.found ws.stop some ∙ ap (λ ts. expanded source all ts) h.words ∙ flat_map-append (λ t. replaced source t.at (length all) all t) h.found (h.word ∷ h.later))
-        ∙ sym (append_assoc before (expanded source all h.found) (new ++ expanded source all h.later)) ∙ sym (append_assoc old new (expanded source all h.later)) in
+    ap (λ ts. before ++ ts) (line_tokens ws.front source all ws.found ws.stop some ∙ ap (λ ts. expanded source all ts) h.words ∙ flat_map-append (λ t. replaced source t.at (length all) all t) h.found (h.word ∷ h.later))
+    ∙ sym (append_assoc before (expanded source all h.found) (new ++ expanded source all h.later)) ∙ sym (append_assoc old new (expanded source all h.later)) in
     let count = ap length tokens in
     let parts = length-append (old ++ new) (expanded source all h.later) in
     let many : 2 ^ 20 < length (before ++ (line_at source all start).tokens) = omega (arith, count, parts, h.passes.2) in
@@ -157,9 +157,10 @@ found_none (t ∷ ts) h = absurd (cc)
 -- `#` comes first
 pub hash_first : (source : List ℕ) (ms : List Macro) (start : ℕ) (before : List Token) (at : ℕ) (tokens : List Token) (w : AllWords source ms start before at Hash true tokens) → (line_at source (all_of source ms) start ≡ directive_at source (all_of source ms) at) × (tokens ≡ before)
 hash_first source ms start before at tokens w =
-    let none = found_none w.found w.is_fresh in
-    ( line_words source ms start before at Hash true tokens w ∙ ap (λ ts. hash_line ts source (all_of source ms) at) none
-    , w.told ∙ ap (λ ts. before ++ expanded source (all_of source ms) ts) none ∙ append-nil before )
+    let none = found_none w.found w.is_fresh in (
+      line_words source ms start before at Hash true tokens w ∙ ap (λ ts. hash_line ts source (all_of source ms) at) none,
+      w.told ∙ ap (λ ts. before ++ expanded source (all_of source ms) ts) none ∙ append-nil before,
+    )
 
 hash_later_by : (found : List Token) (source : List ℕ) (ms : Macros) (at : ℕ) → false ≡ is_nil found → hash_line found source ms at ≡ bad ms (expanded source ms found) at
 hash_later_by [] source ms at h = absurd (cc)
@@ -170,16 +171,16 @@ pub hash_later : (source : List ℕ) (ms : List Macro) (start : ℕ) (before : L
 hash_later source ms start before at tokens w few =
     let count = ap length w.told in
     LineStops-bad (line_at source (all_of source ms) start) before (expanded source (all_of source ms) w.found) at (all_of source ms)
-      (line_words source ms start before at Hash false tokens w ∙ hash_later_by w.found source (all_of source ms) at w.is_fresh) (omega (arith, few, count))
+    (line_words source ms start before at Hash false tokens w ∙ hash_later_by w.found source (all_of source ms) at w.is_fresh) (omega (arith, few, count))
 
 pub bad_later : (source : List ℕ) (ms : List Macro) (start : ℕ) (before : List Token) (at : ℕ) (fresh : Bool) (tokens : List Token) → AllWords source ms start before at Bad fresh tokens → length tokens ≤ 2 ^ 20 → fault_of before (line_at source (all_of source ms) start) ≡ Some at
 bad_later source ms start before at fresh tokens w few =
     let count = ap length w.told in
     LineStops-bad (line_at source (all_of source ms) start) before (expanded source (all_of source ms) w.found) at (all_of source ms)
-      (line_words source ms start before at Bad fresh tokens w) (omega (arith, few, count))
+    (line_words source ms start before at Bad fresh tokens w) (omega (arith, few, count))
 
 pub words_read : (source : List ℕ) (ms : List Macro) (opened blank : List Bool) (start : ℕ) (before : List Token) (at : ℕ) (front : Front) (fresh : Bool) (tokens : List Token) → AllWords source ms start before at front fresh tokens → (front ≡ Hash → ⊥) → (front ≡ Bad → ⊥) → IsIdle source ms opened blank → length tokens ≤ 2 ^ 20
     → LineRead source (line_at source (all_of source ms) start) before at ms opened blank tokens
 words_read source ms opened blank start before at front fresh tokens w no_hash no_bad idle few =
     LineRead-good source (line_at source (all_of source ms) start) before (expanded source (all_of source ms) w.found) tokens at ms opened blank
-      (line_words source ms start before at front fresh tokens w ∙ line_good front source (all_of source ms) w.found at no_hash no_bad) idle w.told few
+    (line_words source ms start before at front fresh tokens w ∙ line_good front source (all_of source ms) w.found at no_hash no_bad) idle w.told few

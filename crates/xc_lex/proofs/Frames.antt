@@ -1,15 +1,15 @@
 -- One step of the frames.
-use Rattle.std.proofs.Common.{◌≡◌, ◌≤◌, ◌<◌, ◌^◌, ℕ, zero, suc, ◌+◌, ◌-◌, List, [], ◌∷◌, ◌++◌, length, map, drop, sum_by, Bool, true, false, ◌==◌, ◌||◌, if◌then◌else◌, Option, Some, None, refl, sym, ap, ◌∙◌, subst, arith, rules, get_or, append_assoc, length-append}
+use Rattle.std.proofs.Common.{◌≡◌, ◌≤◌, ◌<◌, ◌^◌, ℕ, zero, suc, ◌+◌, List, [], ◌∷◌, ◌++◌, length, drop, sum_by, Bool, true, false, ◌==◌, ◌||◌, None, refl, sym, ap, ◌∙◌, subst, arith, get_or, append_assoc, length-append}
 use Rattle.std.proofs.Math.ListN.{set, length-set}
-use Rattle.std.specs.List.{flat_map, list_any}
+use Rattle.std.specs.List.{flat_map}
 use Rattle.std.proofs.lemmas.List.Sums.{sum_by-cons}
 use Rattle.std.proofs.lemmas.Bool.{eqb-true, eq-eqb}
 use Rattle.xc_span.specs.declared.Span.{Span}
 use Rattle.xc_lex.specs.declared.token.Token.{Token}
 use Rattle.xc_lex.specs.declared.macros.Macro.{Macro}
 use Rattle.xc_lex.specs.declared.macros.Frame.{Frame}
-use Rattle.xc_lex.specs.Macros.{bytes_of, replacement}
-use Rattle.xc_lex.specs.State.{tokens_of, is_set, is_in, index_of, Names, NamesBlank, AllNameBlank, AreNamesOf, AreBlank, FlagsFit, IsKept, now_replaced, now_cost, pending, frames_cost, visible, unwound, AreWithin, Entered}
+use Rattle.xc_lex.specs.Macros.{replacement}
+use Rattle.xc_lex.specs.State.{tokens_of, is_set, is_in, Names, NamesBlank, AllNameBlank, AreNamesOf, FlagsFit, IsKept, now_replaced, now_cost, pending, frames_cost, visible, unwound, Entered}
 use Rattle.xc_lex.proofs.Lookups.{open_closed, is_set-set, is_set-set_other}
 use Rattle.xc_lex.proofs.Expansion.{differs, moved, replaced-kept, replaced-blank, two-le-cost, now_replaced_once, now_cost_once}
 
@@ -26,7 +26,7 @@ pub cost_next : (source : List ℕ) (ms : List Macro) (opened : List Bool) (f : 
     → frames_cost source ms opened (f ∷ fs) ≡ now_cost source ms opened t + frames_cost source ms opened (record f { next = f.next + 1 } ∷ fs)
 cost_next source ms opened f fs t h =
     let step : sum_by (now_cost source ms opened) (drop f.next (tokens_of ms f.number)) ≡ now_cost source ms opened t + sum_by (now_cost source ms opened) (drop (f.next + 1) (tokens_of ms f.number)) =
-        ap (λ ts. sum_by (now_cost source ms opened) ts) h ∙ sum_by-cons (now_cost source ms opened) t (drop (f.next + 1) (tokens_of ms f.number)) in
+    ap (λ ts. sum_by (now_cost source ms opened) ts) h ∙ sum_by-cons (now_cost source ms opened) t (drop (f.next + 1) (tokens_of ms f.number)) in
     omega (arith, step)
 
 pub cost_done : (source : List ℕ) (ms : List Macro) (opened : List Bool) (f : Frame) (fs : List Frame) → frames_cost source ms (set opened f.number false) fs < frames_cost source ms opened (f ∷ fs)
@@ -46,9 +46,10 @@ FlagsFit-close source ms opened blank n within h = record {
   known = h.known;
   are_blank = h.are_blank;
   flagged = h.flagged;
-  closed = λ i member. elim (i == n) as (λ v. (i == n) ≡ v → is_set (set opened n false) i ≡ false)
-    [ true ↦ λ e. subst (λ (k : ℕ). is_set (set opened n false) k ≡ false) (sym (eqb-true i n e)) (is_set-set opened n false within)
-    | false ↦ λ e. is_set-set_other opened n i false (different i n e) ∙ h.closed i member ] refl;
+  closed = λ i member. elim (i == n) as (λ v. (i == n) ≡ v → is_set (set opened n false) i ≡ false) [
+    | true ↦ λ e. subst (λ (k : ℕ). is_set (set opened n false) k ≡ false) (sym (eqb-true i n e)) (is_set-set opened n false within)
+    | false ↦ λ e. is_set-set_other opened n i false (different i n e) ∙ h.closed i member
+  ] refl;
 }
 
 -- a macro that is not known to stand for nothing is opened
@@ -66,12 +67,14 @@ pub FlagsFit-mark : (source : List ℕ) (ms : List Macro) (opened blank : List B
 FlagsFit-mark source ms opened blank n within off shut names h = record {
   known = n ∷ h.known;
   are_blank = (sym (h.flagged n) ∙ off, names_known source ms blank h.known h.flagged (tokens_of ms n) names, h.are_blank);
-  flagged = λ i. elim (n == i) as (λ v. (n == i) ≡ v → is_set (set blank n true) i ≡ (v || is_in i h.known))
-    [ true ↦ λ e. subst (λ (k : ℕ). is_set (set blank n true) k ≡ true) (eqb-true n i e) (is_set-set blank n true within)
-    | false ↦ λ e. is_set-set_other blank n i true (λ same. different n i e (sym same)) ∙ h.flagged i ] refl;
-  closed = λ i. elim (n == i) as (λ v. (n == i) ≡ v → (v || is_in i h.known) ≡ true → is_set opened i ≡ false)
-    [ true ↦ λ e m. subst (λ (k : ℕ). is_set opened k ≡ false) (eqb-true n i e) shut
-    | false ↦ λ e m. h.closed i m ] refl;
+  flagged = λ i. elim (n == i) as (λ v. (n == i) ≡ v → is_set (set blank n true) i ≡ (v || is_in i h.known)) [
+    | true ↦ λ e. subst (λ (k : ℕ). is_set (set blank n true) k ≡ true) (eqb-true n i e) (is_set-set blank n true within)
+    | false ↦ λ e. is_set-set_other blank n i true (λ same. different n i e (sym same)) ∙ h.flagged i
+  ] refl;
+  closed = λ i. elim (n == i) as (λ v. (n == i) ≡ v → (v || is_in i h.known) ≡ true → is_set opened i ≡ false) [
+    | true ↦ λ e m. subst (λ (k : ℕ). is_set opened k ≡ false) (eqb-true n i e) shut
+    | false ↦ λ e m. h.closed i m
+  ] refl;
 }
 
 -- a token is kept

@@ -8,3 +8,4 @@ pub mod Defining
 pub mod Directives
 pub mod Faults
 pub mod Sources
+pub mod Unique

@@ -1,11 +1,10 @@
 -- Macros by their names.
-use Rattle.std.proofs.Common.{◌≡◌, ◌≤◌, ◌<◌, ℕ, zero, suc, ◌+◌, ◌-◌, List, [], ◌∷◌, ◌++◌, length, map, Bool, true, false, ◌==◌, if◌then◌else◌, Option, Some, None, refl, sym, ap, ◌∙◌, subst, arith, rules, get_or}
+use Rattle.std.proofs.Common.{◌≡◌, ◌<◌, ℕ, zero, suc, List, [], ◌∷◌, length, Bool, true, false, if◌then◌else◌, Some, None, refl, sym, ap, subst, arith, get_or}
 use Rattle.std.proofs.Math.ListN.{set}
 use Rattle.std.specs.Str.{bytes_eq}
 use Rattle.std.proofs.lemmas.Slice.Eq.{bytes_eq-Decides}
-use Rattle.xc_lex.specs.declared.token.Token.{Token}
 use Rattle.xc_lex.specs.declared.macros.Macro.{Macro}
-use Rattle.xc_lex.specs.Macros.{Macros, bytes_of, body_of, without}
+use Rattle.xc_lex.specs.Macros.{bytes_of, body_of, without}
 use Rattle.xc_lex.specs.State.{entry_of, visible, index_of, AreApart, tokens_of, is_set}
 
 -- a name of no macro
@@ -13,13 +12,13 @@ pub body_of-absent : (source : List ℕ) (ms : List Macro) (opened : List Bool) 
 body_of-absent source [] opened name h = refl
 body_of-absent source (m ∷ ms) [] name h =
     elim (bytes_eq (bytes_of source m.name) name) as (λ v. (if v then 0 else suc (index_of source ms name)) ≡ suc (length ms) → (if v then Some m.body.items else body_of (visible source ms []) name) ≡ None)
-      [ true ↦ λ h. absurd (omega arith) | false ↦ λ h. body_of-absent source ms [] name (omega arith) ] h
+    [ true ↦ λ h. absurd (omega arith) | false ↦ λ h. body_of-absent source ms [] name (omega arith) ] h
 body_of-absent source (m ∷ ms) (true ∷ opened) name h =
     elim (bytes_eq (bytes_of source m.name) name) as (λ v. (if v then 0 else suc (index_of source ms name)) ≡ suc (length ms) → body_of (visible source ms opened) name ≡ None)
-      [ true ↦ λ h. absurd (omega arith) | false ↦ λ h. body_of-absent source ms opened name (omega arith) ] h
+    [ true ↦ λ h. absurd (omega arith) | false ↦ λ h. body_of-absent source ms opened name (omega arith) ] h
 body_of-absent source (m ∷ ms) (false ∷ opened) name h =
     elim (bytes_eq (bytes_of source m.name) name) as (λ v. (if v then 0 else suc (index_of source ms name)) ≡ suc (length ms) → (if v then Some m.body.items else body_of (visible source ms opened) name) ≡ None)
-      [ true ↦ λ h. absurd (omega arith) | false ↦ λ h. body_of-absent source ms opened name (omega arith) ] h
+    [ true ↦ λ h. absurd (omega arith) | false ↦ λ h. body_of-absent source ms opened name (omega arith) ] h
 
 -- a macro that is not opened
 pub body_of-closed : (source : List ℕ) (ms : List Macro) (opened : List Bool) (name : List ℕ) → index_of source ms name < length ms → is_set opened (index_of source ms name) ≡ false
@@ -27,26 +26,27 @@ pub body_of-closed : (source : List ℕ) (ms : List Macro) (opened : List Bool) 
 body_of-closed source [] opened name h f = absurd (omega arith)
 body_of-closed source (m ∷ ms) [] name h f =
     elim (bytes_eq (bytes_of source m.name) name) as (λ v. (if v then 0 else suc (index_of source ms name)) < suc (length ms) → (if v then Some m.body.items else body_of (visible source ms []) name) ≡ Some (tokens_of (m ∷ ms) (if v then 0 else suc (index_of source ms name))))
-      [ true ↦ λ h. refl | false ↦ λ h. body_of-closed source ms [] name (omega arith) refl ] h
+    [ true ↦ λ h. refl | false ↦ λ h. body_of-closed source ms [] name (omega arith) refl ] h
 body_of-closed source (m ∷ ms) (true ∷ opened) name h f =
     elim (bytes_eq (bytes_of source m.name) name) as (λ v. (if v then 0 else suc (index_of source ms name)) < suc (length ms) → is_set (true ∷ opened) (if v then 0 else suc (index_of source ms name)) ≡ false → body_of (visible source ms opened) name ≡ Some (tokens_of (m ∷ ms) (if v then 0 else suc (index_of source ms name))))
-      [ true ↦ λ h f. absurd (cc) | false ↦ λ h f. body_of-closed source ms opened name (omega arith) f ] h f
+    [ true ↦ λ h f. absurd (cc) | false ↦ λ h f. body_of-closed source ms opened name (omega arith) f ] h f
 body_of-closed source (m ∷ ms) (false ∷ opened) name h f =
     elim (bytes_eq (bytes_of source m.name) name) as (λ v. (if v then 0 else suc (index_of source ms name)) < suc (length ms) → is_set (false ∷ opened) (if v then 0 else suc (index_of source ms name)) ≡ false → (if v then Some m.body.items else body_of (visible source ms opened) name) ≡ Some (tokens_of (m ∷ ms) (if v then 0 else suc (index_of source ms name))))
-      [ true ↦ λ h f. refl | false ↦ λ h f. body_of-closed source ms opened name (omega arith) f ] h f
+    [ true ↦ λ h f. refl | false ↦ λ h f. body_of-closed source ms opened name (omega arith) f ] h f
 
 -- a macro that is opened
 pub body_of-opened : (source : List ℕ) (ms : List Macro) (opened : List Bool) (name : List ℕ) → AreApart source ms → is_set opened (index_of source ms name) ≡ true → body_of (visible source ms opened) name ≡ None
 body_of-opened source [] opened name a f = refl
 body_of-opened source (m ∷ ms) [] name a f = absurd (cc)
 body_of-opened source (m ∷ ms) (true ∷ opened) name a f =
-    elim (bytes_eq (bytes_of source m.name) name) as (λ v. bytes_eq (bytes_of source m.name) name ≡ v → is_set (true ∷ opened) (if v then 0 else suc (index_of source ms name)) ≡ true → body_of (visible source ms opened) name ≡ None)
-      [ true ↦ λ e f. let same : bytes_of source m.name ≡ name = (bytes_eq-Decides (bytes_of source m.name) name).0 e in
+    elim (bytes_eq (bytes_of source m.name) name) as (λ v. bytes_eq (bytes_of source m.name) name ≡ v → is_set (true ∷ opened) (if v then 0 else suc (index_of source ms name)) ≡ true → body_of (visible source ms opened) name ≡ None) [
+      | true ↦ λ e f. let same : bytes_of source m.name ≡ name = (bytes_eq-Decides (bytes_of source m.name) name).0 e in
           body_of-absent source ms opened name (subst (λ (n : List ℕ). index_of source ms n ≡ length ms) same a.0)
-      | false ↦ λ e f. body_of-opened source ms opened name a.1 f ] refl f
+      | false ↦ λ e f. body_of-opened source ms opened name a.1 f
+    ] refl f
 body_of-opened source (m ∷ ms) (false ∷ opened) name a f =
     elim (bytes_eq (bytes_of source m.name) name) as (λ v. is_set (false ∷ opened) (if v then 0 else suc (index_of source ms name)) ≡ true → (if v then Some m.body.items else body_of (visible source ms opened) name) ≡ None)
-      [ true ↦ λ f. absurd (cc) | false ↦ λ f. body_of-opened source ms opened name a.1 f ] f
+    [ true ↦ λ f. absurd (cc) | false ↦ λ f. body_of-opened source ms opened name a.1 f ] f
 
 -- to open a macro is to forget it
 pub visible-open : (source : List ℕ) (ms : List Macro) (opened : List Bool) (name : List ℕ) → index_of source ms name < length ms → index_of source ms name < length opened → is_set opened (index_of source ms name) ≡ false
@@ -55,12 +55,12 @@ visible-open source [] opened name h k f = absurd (omega arith)
 visible-open source (m ∷ ms) [] name h k f = absurd (omega arith)
 visible-open source (m ∷ ms) (true ∷ opened) name h k f =
     elim (bytes_eq (bytes_of source m.name) name) as (λ v. (if v then 0 else suc (index_of source ms name)) < suc (length ms) → (if v then 0 else suc (index_of source ms name)) < suc (length opened) → is_set (true ∷ opened) (if v then 0 else suc (index_of source ms name)) ≡ false
-        → visible source (m ∷ ms) (set (true ∷ opened) (if v then 0 else suc (index_of source ms name)) true) ≡ without name (visible source ms opened))
-      [ true ↦ λ h k f. absurd (cc) | false ↦ λ h k f. visible-open source ms opened name (omega arith) (omega arith) f ] h k f
+    → visible source (m ∷ ms) (set (true ∷ opened) (if v then 0 else suc (index_of source ms name)) true) ≡ without name (visible source ms opened))
+    [ true ↦ λ h k f. absurd (cc) | false ↦ λ h k f. visible-open source ms opened name (omega arith) (omega arith) f ] h k f
 visible-open source (m ∷ ms) (false ∷ opened) name h k f =
     elim (bytes_eq (bytes_of source m.name) name) as (λ v. (if v then 0 else suc (index_of source ms name)) < suc (length ms) → (if v then 0 else suc (index_of source ms name)) < suc (length opened) → is_set (false ∷ opened) (if v then 0 else suc (index_of source ms name)) ≡ false
-        → visible source (m ∷ ms) (set (false ∷ opened) (if v then 0 else suc (index_of source ms name)) true) ≡ (if v then visible source ms opened else entry_of source m ∷ without name (visible source ms opened)))
-      [ true ↦ λ h k f. refl | false ↦ λ h k f. ap (λ ns. entry_of source m ∷ ns) (visible-open source ms opened name (omega arith) (omega arith) f) ] h k f
+    → visible source (m ∷ ms) (set (false ∷ opened) (if v then 0 else suc (index_of source ms name)) true) ≡ (if v then visible source ms opened else entry_of source m ∷ without name (visible source ms opened)))
+    [ true ↦ λ h k f. refl | false ↦ λ h k f. ap (λ ns. entry_of source m ∷ ns) (visible-open source ms opened name (omega arith) (omega arith) f) ] h k f
 
 pub length-visible-open : (source : List ℕ) (ms : List Macro) (opened : List Bool) (i : ℕ) → i < length ms → i < length opened → is_set opened i ≡ false → suc (length (visible source ms (set opened i true))) ≡ length (visible source ms opened)
 length-visible-open source [] opened i h k f = absurd (omega arith)

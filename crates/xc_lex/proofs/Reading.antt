@@ -1,7 +1,6 @@
 -- What the words of a line add to the tokens.
-use Rattle.std.proofs.Common.{◌≡◌, ◌≤◌, ◌<◌, ◌^◌, ℕ, zero, suc, ◌+◌, ◌-◌, List, [], ◌∷◌, ◌++◌, length, drop, Bool, true, false, Option, Some, None, refl, sym, ap, ◌∙◌, subst, arith, append_assoc, length-append}
-use Rattle.std.specs.List.{flat_map}
-use Rattle.std.proofs.lemmas.Grind.{common_steps, flat_map-append}
+use Rattle.std.proofs.Common.{◌≡◌, ◌≤◌, ◌<◌, ℕ, zero, suc, ◌+◌, ◌-◌, List, [], ◌∷◌, ◌++◌, length, drop, Bool, true, false, refl, sym, ap, ◌∙◌, subst, append_assoc}
+use Rattle.std.proofs.lemmas.Grind.{flat_map-append}
 use Rattle.std.proofs.lemmas.List.{append-nil}
 use Rattle.xc_lex.specs.declared.token.Token.{Token}
 use Rattle.xc_lex.specs.declared.token.TokenKind.{TokenKind}
@@ -11,8 +10,8 @@ use Rattle.xc_lex.specs.declared.macros.Stop.TheVariants.{NoMemory, At}
 use Rattle.xc_lex.specs.declared.front.Front.{Front}
 use Rattle.xc_lex.specs.declared.front.Front.TheVariants.{End, LineEnd, Blank, Whole, Hash, Bad}
 use Rattle.xc_lex.specs.Front.{front_of}
-use Rattle.xc_lex.specs.Macros.{Macros, replaced, expanded}
-use Rattle.xc_lex.specs.Lines.{Words, token_of, words_by, words_from, words_at}
+use Rattle.xc_lex.specs.Macros.{replaced, expanded}
+use Rattle.xc_lex.specs.Lines.{Words, token_of, words_by, words_from}
 use Rattle.xc_lex.specs.State.{all_of, visible, now_replaced, Replaced, Passes}
 use Rattle.xc_lex.specs.Steps.{IsIdle, is_nil, SoFar, AllWords, TooMany, WordsStop}
 use Rattle.xc_lex.proofs.Scanning.{words_blank_at, words_whole_at, words_stop}
@@ -39,7 +38,7 @@ SoFar-whole source ms start before at fresh tokens tokens' kind n f some h more 
       found = s.found ++ word ∷ [];
       same = s.same ∙ words_whole_at source at s.found kind n f some h;
       told = more ∙ ap (λ ts. ts ++ replaced source word.at (length all) all word) s.told ∙ append_assoc before (expanded source all s.found) (replaced source word.at (length all) all word)
-        ∙ ap (λ ts. before ++ (expanded source all s.found ++ ts)) (sym one) ∙ ap (λ ts. before ++ ts) (sym (flat_map-append (λ t. replaced source t.at (length all) all t) s.found (word ∷ [])));
+          ∙ ap (λ ts. before ++ (expanded source all s.found ++ ts)) (sym one) ∙ ap (λ ts. before ++ ts) (sym (flat_map-append (λ t. replaced source t.at (length all) all t) s.found (word ∷ [])));
       is_fresh = nil_push s.found word;
     }
 
@@ -105,9 +104,10 @@ pub SoFar-replaced : (source : List ℕ) (ms ms' : List Macro) (opened blank ope
     → SoFar source ms start before at fresh tokens → IsIdle source ms opened' blank' × SoFar source ms start before (at + n) false tokens'
 SoFar-replaced source ms ms' opened blank opened' blank' start before at fresh tokens tokens' kind n t same word f some h idle r s =
     let there = subst (λ (ns : List Macro). Replaced source ns opened tokens t opened' blank' tokens') same r in
-    let done = subst (λ (u : Token). Replaced source ms opened tokens u opened' blank' tokens') word there in
-    ( IsIdle-replaced source ms opened blank opened' blank' tokens tokens' (token_of kind at (at + n)) idle done
-    , SoFar-whole source ms start before at fresh tokens tokens' kind n f some h (done.told ∙ ap (λ ts. tokens ++ ts) (now_is_all source ms opened blank (token_of kind at (at + n)) idle)) s )
+    let done = subst (λ (u : Token). Replaced source ms opened tokens u opened' blank' tokens') word there in (
+      IsIdle-replaced source ms opened blank opened' blank' tokens tokens' (token_of kind at (at + n)) idle done,
+      SoFar-whole source ms start before at fresh tokens tokens' kind n f some h (done.told ∙ ap (λ ts. tokens ++ ts) (now_is_all source ms opened blank (token_of kind at (at + n)) idle)) s,
+    )
 
 -- or passes the limit
 pub SoFar-refused : (source : List ℕ) (ms ms' : List Macro) (opened blank : List Bool) (start : ℕ) (before : List Token) (at : ℕ) (fresh : Bool) (tokens : List Token) (kind : TokenKind) (n : ℕ) (t : Token) (stop : Stop)

@@ -1,12 +1,12 @@
 -- Reading on by one piece.
-use Rattle.std.proofs.Common.{◌≡◌, ◌≤◌, ◌<◌, ℕ, zero, suc, ◌+◌, ◌-◌, List, [], ◌∷◌, ◌++◌, length, drop, refl, sym, ap, ◌∙◌, subst, arith, append_assoc}
+use Rattle.std.proofs.Common.{◌≡◌, ◌≤◌, ◌<◌, ℕ, zero, suc, ◌+◌, ◌-◌, List, [], ◌∷◌, ◌++◌, length, drop, refl, ap, ◌∙◌, arith}
 use Rattle.std.proofs.lemmas.Grind.{common_steps}
 use Rattle.xc_lex.specs.declared.token.Token.{Token}
 use Rattle.xc_lex.specs.declared.token.TokenKind.{TokenKind}
 use Rattle.xc_lex.specs.declared.front.Front.{Front}
 use Rattle.xc_lex.specs.declared.front.Front.TheVariants.{End, LineEnd, Blank, Whole, Hash, Bad}
 use Rattle.xc_lex.specs.Front.{front_of}
-use Rattle.xc_lex.specs.Lines.{Words, token_of, words_by, words_from, words_at, blanks_by, blanks_from}
+use Rattle.xc_lex.specs.Lines.{Words, token_of, words_by, words_from, blanks_by, blanks_from}
 
 drop-drop_at : (n at : ℕ) (source : List ℕ) → drop n (drop at source) ≡ drop (at + n) source
 drop-drop_at n at source = grind (arith, common_steps)

@@ -1,10 +1,10 @@
 -- From line to line.
-use Rattle.std.proofs.Common.{◌≡◌, ◌≤◌, ◌<◌, ◌^◌, ℕ, ◌+◌, List, [], ◌++◌, length, Option, Some, None, refl, sym, ap, ◌∙◌, subst, arith, Bool}
+use Rattle.std.proofs.Common.{◌≡◌, ◌<◌, ℕ, ◌+◌, List, ◌++◌, length, sym, ◌∙◌, subst, arith, Bool}
 use Rattle.xc_lex.specs.declared.token.Token.{Token}
 use Rattle.xc_lex.specs.declared.macros.Macro.{Macro}
 use Rattle.xc_lex.specs.Macros.{Macros}
-use Rattle.xc_lex.specs.Lines.{Line, line_at}
-use Rattle.xc_lex.specs.Source.{Reached, first, next, AreTokens, IsFault, fault_of}
+use Rattle.xc_lex.specs.Lines.{line_at}
+use Rattle.xc_lex.specs.Source.{Reached, next, AreTokens}
 use Rattle.xc_lex.specs.State.{all_of}
 use Rattle.xc_lex.specs.Steps.{LineRead}
 

@@ -1,7 +1,6 @@
 -- The lines of a text: tokens, or one directive (C99 6.10).
-use Rattle.std.specs.Prelude.{◌≡◌, ℕ, zero, suc, ◌+◌, ◌-◌, List, [], ◌∷◌, ◌++◌, length, drop, Bool, true, false, if◌then◌else◌, codes, slice_range}
+use Rattle.std.specs.Prelude.{ℕ, zero, suc, ◌+◌, ◌-◌, List, [], ◌∷◌, ◌++◌, drop, Bool, true, false, if◌then◌else◌, codes, slice_range}
 use Rattle.std.specs.Str.{bytes_eq}
-use Rattle.xc_span.specs.declared.Span.{Span}
 use Rattle.xc_lex.specs.declared.token.Token.{Token}
 use Rattle.xc_lex.specs.declared.token.TokenKind.{TokenKind}
 use Rattle.xc_lex.specs.declared.token.TokenKind.TheVariants.{Name, Pragma}
@@ -10,7 +9,7 @@ use Rattle.xc_lex.specs.declared.front.Front.TheVariants.{End, LineEnd, Blank, W
 use Rattle.xc_lex.specs.declared.lines.Directive.{Directive}
 use Rattle.xc_lex.specs.declared.lines.Directive.TheVariants.{Include, Note, Define, Unknown}
 use Rattle.xc_lex.specs.Front.{front_of, rest_front_of}
-use Rattle.xc_lex.specs.Macros.{Macros, bytes_of, is_defined, expanded}
+use Rattle.xc_lex.specs.Macros.{Macros, is_defined, expanded}
 
 -- a token that stands where its bytes do
 abbrev pub token_of : TokenKind → ℕ → ℕ → Token

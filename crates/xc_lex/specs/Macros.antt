@@ -1,5 +1,5 @@
 -- Macro replacement (C99 6.10.3, of macros without parameters alone).
-use Rattle.std.specs.Prelude.{◌≡◌, ℕ, zero, suc, ◌+◌, List, [], ◌∷◌, ◌++◌, length, Bool, Option, Some, None, is_some, if◌then◌else◌, slice_range}
+use Rattle.std.specs.Prelude.{ℕ, zero, suc, List, [], ◌∷◌, length, Bool, Option, Some, None, is_some, if◌then◌else◌, slice_range}
 use Rattle.std.specs.List.{flat_map}
 use Rattle.std.specs.Option.{option_map_or}
 use Rattle.std.specs.Str.{bytes_eq}

@@ -1,7 +1,6 @@
 -- Integer constants (C99 6.4.4.1, with words of 64 bits as the only size).
-use Rattle.std.specs.Prelude.{◌≡◌, ℕ, ◌+◌, ◌-◌, ◌*◌, ◌^◌, List, [], ◌∷◌, Bool, true, false, ◌==◌, ◌||◌, ◌&&◌, if◌then◌else◌, nat_le, nat_lt, nat_eq, not, take, drop, Option, Some, None, codes, map}
+use Rattle.std.specs.Prelude.{ℕ, ◌+◌, ◌-◌, ◌*◌, ◌^◌, List, [], ◌∷◌, Bool, true, false, ◌==◌, ◌||◌, if◌then◌else◌, nat_le, nat_lt, take, drop, Option, Some, None, codes}
 use Rattle.std.specs.List.{prefix_len, list_any}
-use Rattle.std.specs.Option.{option_map_or}
 use Rattle.std.specs.Str.{bytes_eq}
 use Rattle.xc_lex.specs.declared.number.Number.{Number}
 use Rattle.xc_lex.specs.Bytes.{is_between, is_digit}

@@ -1,5 +1,5 @@
 -- The tokens of a text, and its first fault.
-use Rattle.std.specs.Prelude.{◌≡◌, ◌≤◌, ◌<◌, ℕ, ◌+◌, ◌^◌, List, [], ◌∷◌, ◌++◌, length, drop, Bool, true, false, if◌then◌else◌, nat_le, Option, Some, None, slice_get}
+use Rattle.std.specs.Prelude.{◌≡◌, ◌<◌, ℕ, ◌+◌, ◌^◌, List, [], ◌++◌, length, if◌then◌else◌, nat_le, Option, Some, None, slice_get}
 use Rattle.std.specs.Option.{option_map}
 use Rattle.xc_span.specs.Place.{IsPosition}
 use Rattle.xc_lex.specs.declared.token.Token.{Token}

@@ -1,7 +1,7 @@
 -- The macros as the code keeps them, and what is still to be replaced.
-use Rattle.std.specs.Prelude.{◌≡◌, ◌≤◌, ◌<◌, ℕ, zero, suc, ◌+◌, ◌-◌, ◌^◌, List, [], ◌∷◌, ◌++◌, length, map, sum_by, Bool, true, false, ◌==◌, if◌then◌else◌, Option, Some, None, slice_get, slice_index_or, slice_set, drop, reverse}
+use Rattle.std.specs.Prelude.{◌≡◌, ◌≤◌, ◌<◌, ℕ, zero, suc, ◌+◌, ◌^◌, List, [], ◌∷◌, ◌++◌, length, map, sum_by, Bool, true, false, ◌==◌, if◌then◌else◌, None, slice_index_or, slice_set, drop}
 use Rattle.std.specs.List.{flat_map, list_any}
-use Rattle.std.specs.Option.{option_map, option_map_or}
+use Rattle.std.specs.Option.{option_map_or}
 use Rattle.std.specs.Str.{bytes_eq}
 use Rattle.xc_span.specs.declared.Span.{Span}
 use Rattle.xc_lex.specs.declared.token.Token.{Token}

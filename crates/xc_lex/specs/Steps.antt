@@ -1,13 +1,11 @@
 -- What the parts of the lexer have read.
-use Rattle.std.specs.Prelude.{◌≡◌, ◌≤◌, ◌<◌, ℕ, zero, suc, ◌+◌, ◌^◌, List, [], ◌∷◌, ◌++◌, length, drop, Bool, true, false, Option, Some, None}
-use Rattle.xc_span.specs.declared.Span.{Span}
+use Rattle.std.specs.Prelude.{◌≡◌, ◌≤◌, ℕ, ◌^◌, List, [], ◌∷◌, ◌++◌, length, drop, Bool, true, false, Some, None}
 use Rattle.xc_lex.specs.declared.token.Token.{Token}
 use Rattle.xc_lex.specs.declared.token.TokenKind.TheVariants.{Pragma}
 use Rattle.xc_lex.specs.declared.macros.Macro.{Macro}
 use Rattle.xc_lex.specs.declared.macros.Stop.{Stop}
 use Rattle.xc_lex.specs.declared.macros.Stop.TheVariants.{NoMemory, At}
 use Rattle.xc_lex.specs.declared.front.Front.{Front}
-use Rattle.xc_lex.specs.declared.front.Front.TheVariants.{End, LineEnd, Blank, Whole, Hash, Bad}
 use Rattle.xc_lex.specs.declared.lines.Part.{Part}
 use Rattle.xc_lex.specs.declared.lines.Part.TheVariants.{Tokens, Rest}
 use Rattle.xc_lex.specs.Front.{front_of, rest_front_of}

@@ -3,7 +3,9 @@
 ghost use Rattle.std.specs.Prelude.{◌≡◌, ◌<◌, ◌≤◌, false, length, map, IfSome, MatchOption, ◌∷◌, Some, None};
 ghost use Rattle.xc_lex.specs.Front.{close_from, quote_from, is_escape, longest_of, longest_punctuator, is_keyword, word_kind, comment_of, word_of, token_at, byte_at, front_of, rest_front_of, Moves};
 
-use crate::bytes::{is_among, is_blank, is_name_char, is_name_start, is_printable, is_source, line_len, name_len};
+use crate::bytes::{
+    is_among, is_blank, is_name_char, is_name_start, is_printable, is_source, line_len, name_len,
+};
 use crate::number::read_number;
 use crate::token::TokenKind;
 
@@ -20,11 +22,45 @@ pub enum Front {
 }
 
 const KEYWORDS: [&[u8]; 39] = [
-    b"auto", b"break", b"case", b"char", b"const", b"continue", b"default", b"do", b"double",
-    b"else", b"enum", b"extern", b"float", b"for", b"goto", b"if", b"inline", b"int", b"long",
-    b"register", b"restrict", b"return", b"short", b"signed", b"sizeof", b"static", b"struct",
-    b"switch", b"typedef", b"union", b"unsigned", b"void", b"volatile", b"while", b"_Bool",
-    b"_Complex", b"_Imaginary", b"sync", b"future",
+    b"auto",
+    b"break",
+    b"case",
+    b"char",
+    b"const",
+    b"continue",
+    b"default",
+    b"do",
+    b"double",
+    b"else",
+    b"enum",
+    b"extern",
+    b"float",
+    b"for",
+    b"goto",
+    b"if",
+    b"inline",
+    b"int",
+    b"long",
+    b"register",
+    b"restrict",
+    b"return",
+    b"short",
+    b"signed",
+    b"sizeof",
+    b"static",
+    b"struct",
+    b"switch",
+    b"typedef",
+    b"union",
+    b"unsigned",
+    b"void",
+    b"volatile",
+    b"while",
+    b"_Bool",
+    b"_Complex",
+    b"_Imaginary",
+    b"sync",
+    b"future",
 ];
 
 const PUNCTUATORS: [&[u8]; 45] = [
@@ -44,7 +80,11 @@ fn is_keyword(word: &[u8]) -> bool
 fn word_kind(word: &[u8]) -> TokenKind
     ensures { result ≡ word_kind word.now }
 {
-    if is_keyword(word) { TokenKind::Keyword } else { TokenKind::Name }
+    if is_keyword(word) {
+        TokenKind::Keyword
+    } else {
+        TokenKind::Name
+    }
 }
 
 /// How many bytes there are up to the end of a comment.

@@ -12,3 +12,6 @@ mod token;
 pub use lexer::{LexFault, Tokens, lex};
 pub use number::{Number, read_number};
 pub use token::{Token, TokenKind};
+
+#[cfg(test)]
+mod tests;

@@ -66,8 +66,15 @@ fn token_of(kind: TokenKind, start: usize, end: usize) -> Token
     requires end_fits { end < 2 ^ 32 }
     ensures { result ≡ token_of kind start end }
 {
-    let span = Span { start: start as u32, end: end as u32 };
-    Token { kind, text: span, at: span }
+    let span = Span {
+        start: start as u32,
+        end: end as u32,
+    };
+    Token {
+        kind,
+        text: span,
+        at: span,
+    }
 }
 
 /// Where the blanks end that begin at a place.

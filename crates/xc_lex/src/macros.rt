@@ -113,7 +113,11 @@ impl Macros {
             return None;
         }
         let i = index_of(&self.entries, source, word.text.of(source));
-        if i < self.entries.len() { Some(i) } else { None }
+        if i < self.entries.len() {
+            Some(i)
+        } else {
+            None
+        }
     }
 
     /// What becomes of a token.

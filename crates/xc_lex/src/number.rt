@@ -56,7 +56,10 @@ fn typed(base: u64, value: u64, marked: bool) -> Option<Number>
     if big && base == 10 && !marked {
         None
     } else {
-        Some(Number { value, unsigned: marked || big })
+        Some(Number {
+            value,
+            unsigned: marked || big,
+        })
     }
 }
 

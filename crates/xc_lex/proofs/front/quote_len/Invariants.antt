@@ -1,4 +1,4 @@
-use Rattle.std.proofs.Common.{◌≡◌, length, drop, false}
+use Rattle.std.proofs.Common.{◌≡◌, drop, false}
 use Rattle.xc_lex.specs.Front.{quote_from}
 use Rattle.xc_lex.proofs.front.quote_len.Given as goal
 

@@ -1,10 +1,10 @@
-use Rattle.std.proofs.Common.{◌≡◌, ◌≤◌, ◌<◌, ◌^◌, ℕ, ◌+◌, List, [], length, Bool, ap, sym, subst, arith}
+use Rattle.std.proofs.Common.{◌≡◌, ◌<◌, ℕ, List, [], length, Bool, ap, sym, subst, arith}
 use Rattle.xc_lex.specs.declared.token.Token.{Token}
 use Rattle.xc_lex.specs.declared.macros.Macro.{Macro}
 use Rattle.xc_lex.specs.Source.{Reached, first}
 use Rattle.xc_lex.specs.State.{all_of}
 use Rattle.xc_lex.specs.Steps.{IsIdle}
-use Rattle.xc_lex.proofs.Sources.{Reached-next, AreTokens-last}
+use Rattle.xc_lex.proofs.Sources.{Reached-next}
 use Rattle.xc_lex.proofs.Defining.{IsIdle-empty}
 use Rattle.xc_lex.proofs.lexer.lex.Goals as goal
 

@@ -1,4 +1,4 @@
-use Rattle.std.proofs.Common.{◌≤◌, ◌-◌, ◌+◌, ◌^◌, length}
+use Rattle.std.proofs.Common.{◌≤◌, ◌-◌, ◌^◌, length}
 use Rattle.xc_lex.specs.Source.{Reached}
 use Rattle.xc_lex.specs.State.{all_of}
 use Rattle.xc_lex.specs.Steps.{IsIdle}

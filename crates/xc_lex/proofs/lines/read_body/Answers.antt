@@ -1,9 +1,8 @@
-use Rattle.std.proofs.Common.{◌≡◌, ◌≤◌, ◌∙◌, ◌+◌, ◌++◌, ◌∷◌, [], List, ap, sym, subst, length, drop, arith, length-drop}
+use Rattle.std.proofs.Common.{◌≤◌, ◌∙◌, ◌+◌, ◌++◌, ◌∷◌, [], ap, sym, length, drop, arith, length-drop}
 use Rattle.std.proofs.lemmas.List.{take_rest}
-use Rattle.xc_lex.specs.declared.token.Token.{Token}
 use Rattle.xc_lex.specs.Front.{front_of}
 use Rattle.xc_lex.specs.Lines.{words_from}
-use Rattle.xc_lex.proofs.Scanning.{words_blank_at, words_whole_at, words_stop}
+use Rattle.xc_lex.proofs.Scanning.{words_blank_at, words_whole_at}
 use Rattle.xc_lex.proofs.lines.read_body.Goals as goal
 
 pub words-preserved-in-Blank : goal.words-preserved-in-Blank

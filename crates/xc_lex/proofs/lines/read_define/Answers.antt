@@ -1,9 +1,6 @@
-use Rattle.std.proofs.Common.{◌≡◌, ◌∙◌, ◌+◌, [], sym, ap, refl, arith, rules, drop, length}
+use Rattle.std.proofs.Common.{◌∙◌, [], sym, ap, refl, rules}
 use Rattle.std.specs.List.{slice_range}
 use Rattle.xc_lex.specs.declared.front.Front.TheVariants.{Whole}
-use Rattle.xc_lex.specs.declared.token.TokenKind.TheVariants.{Name}
-use Rattle.xc_lex.specs.Front.{front_of}
-use Rattle.xc_lex.specs.State.{index_of}
 use Rattle.xc_lex.proofs.Directives.{DefinesAt, define_read, define_known, define_stops, DirectiveRead-at}
 use Rattle.xc_lex.proofs.lines.read_define.Goals as goal
 
@@ -29,7 +26,7 @@ returns-in_ok-define-in-Whole-Name-default-clause-ok c =
     let body = c.in_ok-body-in-Whole-Name-default in
     let bytes = ap (λ t. slice_range source t.text.start t.text.end) c.token_of.ensures in
     let done = define_read source c.args.macros.now.entries.items c.args.macros.now.opened.items c.args.macros.now.blank.items c.args.hash c.args.from at named.n body.body.at
-        (record { name = c.token_of.result.text; body = body.body.words }) there new body.ensures.ok bytes c.requires.idle in
+    (record { name = c.token_of.result.text; body = body.body.words }) there new body.ensures.ok bytes c.requires.idle in
     let pushed = c.in_ok-define-in-Whole-Name-default.ensures in
     DirectiveRead-at source _ [] body.body.at _ _ _ _ _ _ pushed.entries pushed.opened pushed.blank done
 

@@ -1,8 +1,6 @@
-use Rattle.std.proofs.Common.{◌≡◌, ◌≤◌, ◌∙◌, List, ap, sym, subst, length, drop, arith, rules, length-drop}
+use Rattle.std.proofs.Common.{◌≤◌, ◌∙◌, ap, sym, length, drop, arith, rules, length-drop}
 use Rattle.std.proofs.lemmas.List.{take_rest}
-use Rattle.xc_lex.specs.declared.token.Token.{Token}
 use Rattle.xc_lex.specs.Front.{front_of}
-use Rattle.xc_lex.specs.Lines.{words_from, token_of}
 use Rattle.xc_lex.proofs.Reading.{SoFar-blank, SoFar-replaced, SoFar-refused}
 use Rattle.xc_lex.proofs.lines.read_words.Goals as goal
 
@@ -40,7 +38,7 @@ words-preserved c =
     let so_far = c.words.invariant in
     let done = c.in_ok-replace-in-Whole.ensures.ok in
     let kept = SoFar-replaced source entries c.words.macros.entries.items c.words.macros.opened.items c.words.macros.blank.items c.replace.new.self.opened.items c.replace.new.self.blank.items c.args.start c.args.tokens.now.items at c.words.fresh c.words.tokens.items c.replace.new.tokens.items c.in-Whole.kind c.in-Whole.n c.token_of.result
-        so_far.entries c.token_of.ensures front moves.0 within so_far.idle done so_far.so_far in
+    so_far.entries c.token_of.ensures front moves.0 within so_far.idle done so_far.so_far in
     record {
       after = omega (arith, so_far.after);
       within = omega (arith, within, rest, so_far.within);
@@ -62,5 +60,5 @@ returns-in_err-replace-in-Whole-clause-err c =
     let within : c.in-Whole.n ≤ length (drop at source) = omega (arith, size, moves.1) in
     let so_far = c.words.invariant in
     let refused = SoFar-refused source entries c.words.macros.entries.items c.words.macros.opened.items c.words.macros.blank.items c.args.start c.args.tokens.now.items at c.words.fresh c.words.tokens.items c.in-Whole.kind c.in-Whole.n c.token_of.result _
-        so_far.entries c.token_of.ensures front moves.0 within so_far.idle c.in_err-replace-in-Whole.ensures.err so_far.so_far in
+    so_far.entries c.token_of.ensures front moves.0 within so_far.idle c.in_err-replace-in-Whole.ensures.err so_far.so_far in
     search (rules, refused)

@@ -1,4 +1,4 @@
-use Rattle.std.proofs.Common.{◌≡◌, ◌≤◌, ◌-◌, ◌^◌, length, drop}
+use Rattle.std.proofs.Common.{◌≡◌, ◌≤◌, ◌-◌, ◌^◌, length}
 use Rattle.xc_lex.specs.Steps.{IsIdle, SoFar}
 use Rattle.xc_lex.proofs.lines.read_words.Given as goal
 

@@ -1,7 +1,7 @@
-use Rattle.std.proofs.Common.{◌≡◌, ◌≤◌, ◌∙◌, ap, sym, length, drop, arith, length-drop}
+use Rattle.std.proofs.Common.{◌≤◌, ◌∙◌, ap, sym, length, drop, arith, length-drop}
 use Rattle.std.proofs.lemmas.List.{take_rest}
 use Rattle.xc_lex.specs.Steps.{front_in}
-use Rattle.xc_lex.proofs.Scanning.{blanks_blank_at, blanks_stop}
+use Rattle.xc_lex.proofs.Scanning.{blanks_blank_at}
 use Rattle.xc_lex.proofs.lines.skip.Goals as goal
 
 pub blanks-preserved : goal.blanks-preserved

@@ -1,5 +1,5 @@
-use Rattle.std.proofs.Common.{◌≡◌, ◌≤◌, ◌<◌, ◌^◌, ℕ, ◌+◌, ◌*◌, get_or, length, drop, subst, sym, arith}
-use Rattle.xc_lex.specs.Numbers.{value_from, digit_value}
+use Rattle.std.proofs.Common.{◌≤◌, ◌^◌, ◌+◌, ◌*◌, get_or, arith}
+use Rattle.xc_lex.specs.Numbers.{digit_value}
 use Rattle.xc_lex.proofs.Values.{le-value_from_at}
 use Rattle.xc_lex.proofs.number.digits_value.Goals as goal
 

@@ -1,4 +1,4 @@
-use Rattle.std.proofs.Common.{◌∙◌, ap, length}
+use Rattle.std.proofs.Common.{◌∙◌, ap}
 use Rattle.xc_lex.proofs.Frames.{tokens_of_read}
 use Rattle.xc_lex.proofs.macros.Macros.body.Goals as goal
 

@@ -1,11 +1,10 @@
-use Rattle.std.proofs.Common.{◌≡◌, ◌≤◌, ◌<◌, ◌^◌, ◌∙◌, ◌++◌, ◌∷◌, [], ◌+◌, List, ap, sym, subst, length, arith, length-append, reverse}
+use Rattle.std.proofs.Common.{◌∙◌, ◌∷◌, [], List, ap, sym, subst, arith, reverse}
 use Rattle.std.proofs.Math.ListN.{set}
 use Rattle.std.proofs.lemmas.List.{reverse-append}
 use Rattle.std.proofs.Common.{true}
 use Rattle.xc_lex.specs.declared.token.Token.{Token}
 use Rattle.xc_lex.specs.declared.macros.Frame.{Frame}
 use Rattle.xc_lex.specs.State.{Entered}
-use Rattle.xc_lex.proofs.Expansion.{moved}
 use Rattle.xc_lex.proofs.Frames.{Entered-keep, Entered-skip, Entered-enter}
 use Rattle.xc_lex.proofs.macros.Macros.enter.Goals as goal
 

@@ -1,4 +1,4 @@
-use Rattle.std.proofs.Common.{◌≡◌, drop}
+use Rattle.std.proofs.Common.{drop}
 use Rattle.xc_lex.specs.State.{AllNameBlank, tokens_of}
 use Rattle.xc_lex.proofs.macros.Macros.is_blank_body.Given as goal
 

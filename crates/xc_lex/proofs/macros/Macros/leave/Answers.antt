@@ -1,4 +1,4 @@
-use Rattle.std.proofs.Common.{◌≡◌, ◌≤◌, ◌<◌, ◌^◌, ◌∙◌, refl, false, sym, subst, length, arith, rules}
+use Rattle.std.proofs.Common.{◌≡◌, ◌<◌, ◌∙◌, refl, false, sym, length, arith}
 use Rattle.std.proofs.Math.ListN.{length-set}
 use Rattle.xc_lex.specs.State.{is_set}
 use Rattle.xc_lex.proofs.Lookups.{is_set_read, is_set-set}
@@ -17,5 +17,5 @@ returns-then-is_blank_body-clause-kept c =
       blank_len = simp length-set kept.blank_len;
       apart = kept.apart;
       flags = FlagsFit-mark a.source.now a.self.now.entries.items _ a.self.now.blank.items a.number place off (is_set-set a.self.now.opened.items a.number false room) (c.if-is_blank_body.ensures refl)
-        (FlagsFit-close a.source.now a.self.now.entries.items a.self.now.opened.items a.self.now.blank.items a.number room kept.flags);
+          (FlagsFit-close a.source.now a.self.now.entries.items a.self.now.opened.items a.self.now.blank.items a.number room kept.flags);
     }

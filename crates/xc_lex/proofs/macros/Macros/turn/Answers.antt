@@ -1,6 +1,6 @@
 use Rattle.std.proofs.Common.{◌≡◌, ◌<◌, ◌∙◌, sym, subst, true, ℕ, arith, length}
 use Rattle.xc_lex.specs.Macros.{bytes_of}
-use Rattle.xc_lex.specs.State.{is_set, index_of}
+use Rattle.xc_lex.specs.State.{is_set}
 use Rattle.xc_lex.proofs.Expansion.{replacement_name}
 use Rattle.xc_lex.proofs.Lookups.{body_of-opened, is_set_read}
 use Rattle.xc_lex.proofs.macros.Macros.turn.Goals as goal
