@@ -5,8 +5,8 @@ use Rattle.std.specs.List.{slice_range}
 use Rattle.xc_lex.specs.declared.token.Token.{Token}
 use Rattle.xc_lex.specs.declared.token.TokenKind.TheVariants.{Name}
 use Rattle.xc_lex.specs.declared.macros.Macro.{Macro}
-use Rattle.xc_lex.specs.declared.macros.Stop.{Stop}
-use Rattle.xc_lex.specs.declared.macros.Stop.TheVariants.{NoMemory, At}
+use Rattle.xc_lex.specs.declared.stop.Stop.{Stop}
+use Rattle.xc_lex.specs.declared.stop.Stop.TheVariants.{NoMemory, At}
 use Rattle.xc_lex.specs.declared.front.Front.TheVariants.{Whole}
 use Rattle.xc_lex.specs.Front.{front_of}
 use Rattle.xc_lex.specs.Macros.{Macros, bytes_of}

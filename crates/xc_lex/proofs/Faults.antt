@@ -8,8 +8,8 @@ use Rattle.std.specs.Option.{option_map, option_map_or}
 use Rattle.xc_span.specs.declared.Span.{Span}
 use Rattle.xc_lex.specs.declared.token.Token.{Token}
 use Rattle.xc_lex.specs.declared.macros.Macro.{Macro}
-use Rattle.xc_lex.specs.declared.macros.Stop.{Stop}
-use Rattle.xc_lex.specs.declared.macros.Stop.TheVariants.{NoMemory, At}
+use Rattle.xc_lex.specs.declared.stop.Stop.{Stop}
+use Rattle.xc_lex.specs.declared.stop.Stop.TheVariants.{NoMemory, At}
 use Rattle.xc_lex.specs.declared.front.Front.{Front}
 use Rattle.xc_lex.specs.declared.front.Front.TheVariants.{End, LineEnd, Blank, Whole, Hash, Bad}
 use Rattle.xc_lex.specs.Macros.{Macros, bytes_of, without, replacement, replaced, expanded}

@@ -9,3 +9,4 @@ pub mod Directives
 pub mod Faults
 pub mod Sources
 pub mod Unique
+pub mod NumberingLemmas

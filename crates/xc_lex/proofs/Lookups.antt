@@ -1,11 +1,11 @@
 -- Macros by their names.
-use Rattle.std.proofs.Common.{◌≡◌, ◌<◌, ℕ, zero, suc, List, [], ◌∷◌, length, Bool, true, false, if◌then◌else◌, Some, None, refl, sym, ap, subst, arith, get_or}
+use Rattle.std.proofs.Common.{◌≡◌, ◌<◌, ℕ, zero, suc, ◌++◌, List, [], ◌∷◌, length, Bool, true, false, if◌then◌else◌, Option, Some, None, IsSome, refl, sym, ap, subst, arith, get_or}
 use Rattle.std.proofs.Math.ListN.{set}
 use Rattle.std.specs.Str.{bytes_eq}
 use Rattle.std.proofs.lemmas.Slice.Eq.{bytes_eq-Decides}
 use Rattle.xc_lex.specs.declared.macros.Macro.{Macro}
 use Rattle.xc_lex.specs.Macros.{bytes_of, body_of, without}
-use Rattle.xc_lex.specs.State.{entry_of, visible, index_of, AreApart, tokens_of, is_set}
+use Rattle.xc_lex.specs.State.{entry_of, visible, index_of, AreApart, AreNumbered, tokens_of, is_set}
 
 -- a name of no macro
 pub body_of-absent : (source : List ℕ) (ms : List Macro) (opened : List Bool) (name : List ℕ) → index_of source ms name ≡ length ms → body_of (visible source ms opened) name ≡ None
@@ -92,3 +92,38 @@ pub is_set_read : (bs : List Bool) (i : ℕ) (d : Bool) → i < length bs → ge
 is_set_read [] i d k = absurd (omega arith)
 is_set_read (o ∷ bs) zero d k = refl
 is_set_read (o ∷ bs) (suc i) d k = is_set_read bs i d (omega arith)
+
+-- a name without a number is the name of no macro
+pub index_of-unnumbered : (source : List ℕ) (ms : List Macro) (numbers : List ℕ → Option ℕ) (name : List ℕ) → AreNumbered source ms numbers → numbers name ≡ None → index_of source ms name ≡ length ms
+index_of-unnumbered source [] numbers name h none = refl
+index_of-unnumbered source (m ∷ ms) numbers name h none =
+    elim (bytes_eq (bytes_of source m.name) name) as (λ v. bytes_eq (bytes_of source m.name) name ≡ v → (if v then 0 else suc (index_of source ms name)) ≡ suc (length ms)) [
+      | true ↦ λ e.
+          let same : bytes_of source m.name ≡ name = (bytes_eq-Decides (bytes_of source m.name) name).0 e in
+          let some : IsSome (numbers name) = subst (λ (q : List ℕ). IsSome (numbers q)) same h.0 in
+          absurd (no_value (numbers name) some none)
+      | false ↦ λ e. ap suc (index_of-unnumbered source ms numbers name h.1 none)
+    ] refl
+  where
+    no_value : (o : Option ℕ) → IsSome o → o ≡ None → ⊥
+    no_value None some none = absurd (cc)
+    no_value (Some x) some none = absurd (cc)
+
+-- the macro of a number has its name
+pub index_of-numbered : (source : List ℕ) (ms : List Macro) (i : ℕ) (d : Macro) (name : List ℕ) → AreApart source ms → i < length ms → bytes_of source (get_or ms i d).name ≡ name → index_of source ms name ≡ i
+index_of-numbered source [] i d name a h e = absurd (omega arith)
+index_of-numbered source (m ∷ ms) zero d name a h e = rw ((bytes_eq-Decides (bytes_of source m.name) name).1 e) refl
+index_of-numbered source (m ∷ ms) (suc i) d name a h e =
+    let rest = index_of-numbered source ms i d name a.1 (omega arith) e in
+    elim (bytes_eq (bytes_of source m.name) name) as (λ v. bytes_eq (bytes_of source m.name) name ≡ v → (if v then 0 else suc (index_of source ms name)) ≡ suc i) [
+      | true ↦ λ f.
+          let same : bytes_of source m.name ≡ name = (bytes_eq-Decides (bytes_of source m.name) name).0 f in
+          let far : index_of source ms name ≡ length ms = subst (λ (q : List ℕ). index_of source ms q ≡ length ms) same a.0 in
+          absurd (omega (arith, far, rest))
+      | false ↦ λ f. ap suc rest
+    ] refl
+
+-- a further number
+pub AreNumbered-push : (source : List ℕ) (ms : List Macro) (m : Macro) (old new : List ℕ → Option ℕ) → ((q : List ℕ) → IsSome (old q) → IsSome (new q)) → IsSome (new (bytes_of source m.name)) → AreNumbered source ms old → AreNumbered source (ms ++ m ∷ []) new
+AreNumbered-push source [] m old new keeps named h = (named, tt)
+AreNumbered-push source (x ∷ ms) m old new keeps named h = (keeps (bytes_of source x.name) h.0, AreNumbered-push source ms m old new keeps named h.1)

@@ -5,8 +5,8 @@ use Rattle.std.proofs.lemmas.List.{append-nil}
 use Rattle.xc_lex.specs.declared.token.Token.{Token}
 use Rattle.xc_lex.specs.declared.token.TokenKind.{TokenKind}
 use Rattle.xc_lex.specs.declared.macros.Macro.{Macro}
-use Rattle.xc_lex.specs.declared.macros.Stop.{Stop}
-use Rattle.xc_lex.specs.declared.macros.Stop.TheVariants.{NoMemory, At}
+use Rattle.xc_lex.specs.declared.stop.Stop.{Stop}
+use Rattle.xc_lex.specs.declared.stop.Stop.TheVariants.{NoMemory, At}
 use Rattle.xc_lex.specs.declared.front.Front.{Front}
 use Rattle.xc_lex.specs.declared.front.Front.TheVariants.{End, LineEnd, Blank, Whole, Hash, Bad}
 use Rattle.xc_lex.specs.Front.{front_of}

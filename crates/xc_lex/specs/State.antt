@@ -1,5 +1,5 @@
 -- The macros as the code keeps them, and what is still to be replaced.
-use Rattle.std.specs.Prelude.{◌≡◌, ◌≤◌, ◌<◌, ℕ, zero, suc, ◌+◌, ◌^◌, List, [], ◌∷◌, ◌++◌, length, map, sum_by, Bool, true, false, ◌==◌, if◌then◌else◌, None, slice_index_or, slice_set, drop}
+use Rattle.std.specs.Prelude.{◌≡◌, ◌≤◌, ◌<◌, ℕ, zero, suc, ◌+◌, ◌^◌, List, [], ◌∷◌, ◌++◌, length, map, sum_by, Bool, true, false, ◌==◌, if◌then◌else◌, Option, None, IsSome, slice_index_or, slice_set, drop}
 use Rattle.std.specs.List.{flat_map, list_any}
 use Rattle.std.specs.Option.{option_map_or}
 use Rattle.std.specs.Str.{bytes_eq}
@@ -10,8 +10,8 @@ use Rattle.xc_lex.specs.declared.macros.Macro.{Macro}
 use Rattle.xc_lex.specs.declared.macros.Frame.{Frame}
 use Rattle.xc_lex.specs.declared.macros.Turn.{Turn}
 use Rattle.xc_lex.specs.declared.macros.Turn.TheVariants.{Keep, Skip, Enter}
-use Rattle.xc_lex.specs.declared.macros.Stop.{Stop}
-use Rattle.xc_lex.specs.declared.macros.Stop.TheVariants.{NoMemory, At}
+use Rattle.xc_lex.specs.declared.stop.Stop.{Stop}
+use Rattle.xc_lex.specs.declared.stop.Stop.TheVariants.{NoMemory, At}
 use Rattle.xc_lex.specs.Macros.{Macros, bytes_of, without, replacement, replaced}
 
 abbrev pub entry_of : List ℕ → Macro → List ℕ × List Token
@@ -36,6 +36,11 @@ index_of source (m ∷ ms) name = if bytes_eq (bytes_of source m.name) name then
 abbrev pub AreApart : List ℕ → List Macro → Type 0
 AreApart source [] = Unit {0}
 AreApart source (m ∷ ms) = (index_of source ms (bytes_of source m.name) ≡ length ms) × AreApart source ms
+
+-- each name has a number
+abbrev pub AreNumbered : List ℕ → List Macro → (List ℕ → Option ℕ) → Type 0
+AreNumbered source [] numbers = Unit {0}
+AreNumbered source (m ∷ ms) numbers = IsSome (numbers (bytes_of source m.name)) × AreNumbered source ms numbers
 
 abbrev pub tokens_of : List Macro → ℕ → List Token
 tokens_of [] i = []

@@ -3,8 +3,8 @@ use Rattle.std.specs.Prelude.{◌≡◌, ◌≤◌, ℕ, ◌^◌, List, [], ◌�
 use Rattle.xc_lex.specs.declared.token.Token.{Token}
 use Rattle.xc_lex.specs.declared.token.TokenKind.TheVariants.{Pragma}
 use Rattle.xc_lex.specs.declared.macros.Macro.{Macro}
-use Rattle.xc_lex.specs.declared.macros.Stop.{Stop}
-use Rattle.xc_lex.specs.declared.macros.Stop.TheVariants.{NoMemory, At}
+use Rattle.xc_lex.specs.declared.stop.Stop.{Stop}
+use Rattle.xc_lex.specs.declared.stop.Stop.TheVariants.{NoMemory, At}
 use Rattle.xc_lex.specs.declared.front.Front.{Front}
 use Rattle.xc_lex.specs.declared.lines.Part.{Part}
 use Rattle.xc_lex.specs.declared.lines.Part.TheVariants.{Tokens, Rest}

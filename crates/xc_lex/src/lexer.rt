@@ -5,7 +5,8 @@ ghost use Rattle.std.specs.Option.{option_copied};
 ghost use Rattle.xc_lex.specs.Source.{AreTokens, FaultFits};
 
 use crate::lines::read_line;
-use crate::macros::{Macros, Stop};
+use crate::macros::Macros;
+use crate::stop::Stop;
 use crate::token::Token;
 use std::alloc::Global;
 use std::marker::Model;

@@ -7,6 +7,8 @@ mod lexer;
 mod lines;
 mod macros;
 mod number;
+mod numbers;
+mod stop;
 mod token;
 
 pub use lexer::{LexFault, Tokens, lex};

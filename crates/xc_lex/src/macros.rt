@@ -2,8 +2,11 @@
 
 ghost use Rattle.std.specs.Prelude.{◌≡◌, ◌↔◌, ◌≤◌, ◌<◌, ◌^◌, ◌+◌, ◌++◌, ◌∷◌, [], length, ℕ, List, reverse, IfOk, IfErr, OnOk, IsTrue, MatchOption, slice_set, false, drop};
 ghost use Rattle.xc_lex.specs.Macros.{bytes_of, replaced};
-ghost use Rattle.xc_lex.specs.State.{all_of, visible, index_of, AreApart, tokens_of, is_set, is_in, NamesNone, Names, NamesBlank, AllNameBlank, NextOf, Entered, Replaced, FlagsFit, IsKept, now_replaced, pending, unwound, AreWithin, now_cost, frames_cost, TurnFits, Passes};
+ghost use Rattle.xc_lex.specs.Numbering.{number_in};
+ghost use Rattle.xc_lex.specs.State.{all_of, visible, index_of, AreApart, AreNumbered, tokens_of, is_set, is_in, NamesNone, Names, NamesBlank, AllNameBlank, NextOf, Entered, Replaced, FlagsFit, IsKept, now_replaced, pending, unwound, AreWithin, now_cost, frames_cost, TurnFits, Passes};
 
+use crate::numbers::Numbers;
+use crate::stop::Stop;
 use crate::token::{Token, TokenKind};
 use std::alloc::{AllocError, AllocFailed, Global};
 use xc_span::Span;
@@ -22,6 +25,7 @@ pub struct Macro {
 #[derive(Drop)]
 pub struct Macros {
     pub entries: Vec<Macro>,
+    pub numbers: Numbers,
     pub opened: Vec<bool>,
     pub blank: Vec<bool>,
 }
@@ -39,23 +43,6 @@ pub enum Turn {
     Keep,
     Skip,
     Enter(usize),
-}
-
-/// Why reading stops early: want of memory, or a fault at a place.
-#[derive(Clone, Copy, Debug, PartialEq, Eq)]
-pub enum Stop {
-    NoMemory,
-    At(usize),
-}
-
-impl<T: Drop> From<AllocFailed<T>> for Stop {
-    ghost use Rattle.xc_lex.specs.declared.macros.Stop.TheVariants.{NoMemory};
-
-    ghost from_gives = { λ _ e. e ≡ NoMemory };
-
-    fn from(_: AllocFailed<T>) -> Stop {
-        Stop::NoMemory
-    }
 }
 
 /// The number of the macro of this name, or how many macros there are.
@@ -80,25 +67,59 @@ impl Macros {
     {
         Macros {
             entries: Vec::new(alloc),
+            numbers: Numbers::new(alloc),
             opened: Vec::new(alloc),
             blank: Vec::new(alloc),
         }
     }
 
+    /// The number of the macro of a name, or how many macros there are.
+    fn find(&self, source: &[u8], name: &[u8]) -> usize
+        requires apart { AreApart source.now self.now.entries.items }
+        requires numbered { AreNumbered source.now self.now.entries.items (number_in self.now.numbers) }
+        ensures value { result ≡ index_of source.now self.now.entries.items name.now }
+        ensures within { result ≤ length self.now.entries.items }
+    {
+        match self.numbers.get(name) {
+            None => self.entries.len(),
+            Some(number) => {
+                if number < self.entries.len() {
+                    let entry = &self.entries[number];
+                    if entry.name.of(source) == name {
+                        return number;
+                    }
+                }
+                index_of(&self.entries, source, name)
+            }
+        }
+    }
+
     /// Whether no macro has the name.
     pub fn is_new(&self, source: &[u8], name: &[u8]) -> bool
+        requires apart { AreApart source.now self.now.entries.items }
+        requires numbered { AreNumbered source.now self.now.entries.items (number_in self.now.numbers) }
         ensures { IsTrue result ↔ (index_of source.now self.now.entries.items name.now ≡ length self.now.entries.items) }
     {
-        index_of(&self.entries, source, name) == self.entries.len()
+        self.find(source, name) == self.entries.len()
     }
 
     /// Adds a macro.
-    pub fn define(&mut self, name: Span, body: Vec<Token>) -> Result<(), Stop>
+    pub fn define(
+        &mut self,
+        alloc: Global,
+        source: &[u8],
+        name: Span,
+        body: Vec<Token>,
+    ) -> Result<(), Stop>
+        requires { AreNumbered source.now self.old.entries.items (number_in self.old.numbers) }
         ensures entries { IfOk result (λ _. self.new.entries.items ≡ self.old.entries.items ++ record { name = name; body = body } ∷ []) }
+        ensures numbered { IfOk result (λ _. AreNumbered source.now self.new.entries.items (number_in self.new.numbers)) }
         ensures opened { IfOk result (λ _. self.new.opened.items ≡ self.old.opened.items ++ false ∷ []) }
         ensures blank { IfOk result (λ _. self.new.blank.items ≡ self.old.blank.items ++ false ∷ []) }
         ensures err { IfErr result (λ e. e ≡ Stop.NoMemory) }
     {
+        self.numbers
+            .insert(alloc, name.of(source), self.entries.len())?;
         self.entries.push(Macro { name, body })?;
         self.opened.push(false)?;
         self.blank.push(false)?;
@@ -107,12 +128,14 @@ impl Macros {
 
     /// The number of the macro that a token names.
     fn number_of(&self, source: &[u8], word: Token) -> Option<usize>
+        requires apart { AreApart source.now self.now.entries.items }
+        requires numbered { AreNumbered source.now self.now.entries.items (number_in self.now.numbers) }
         ensures { MatchOption result (NamesNone source.now self.now.entries.items word) (λ i. Names source.now self.now.entries.items word i) }
     {
         if word.kind != TokenKind::Name {
             return None;
         }
-        let i = index_of(&self.entries, source, word.text.of(source));
+        let i = self.find(source, word.text.of(source));
         if i < self.entries.len() {
             Some(i)
         } else {
@@ -123,6 +146,7 @@ impl Macros {
     /// What becomes of a token.
     fn turn(&self, source: &[u8], word: Token) -> Turn
         requires kept { IsKept source.now self.now.entries.items self.now.opened.items self.now.blank.items }
+        requires numbered { AreNumbered source.now self.now.entries.items (number_in self.now.numbers) }
         ensures { TurnFits source.now self.now.entries.items self.now.opened.items self.now.blank.items word result }
     {
         match self.number_of(source, word) {
@@ -142,6 +166,7 @@ impl Macros {
     /// Whether a token is the name of a macro that is known to stand for nothing.
     fn is_blank(&self, source: &[u8], word: Token) -> bool
         requires kept { IsKept source.now self.now.entries.items self.now.opened.items self.now.blank.items }
+        requires numbered { AreNumbered source.now self.now.entries.items (number_in self.now.numbers) }
         ensures { IsTrue result → NamesBlank source.now self.now.entries.items self.now.blank.items word }
     {
         match self.number_of(source, word) {
@@ -153,6 +178,7 @@ impl Macros {
     /// Whether each token of a macro is.
     fn is_blank_body(&self, source: &[u8], number: usize) -> bool
         requires kept { IsKept source.now self.now.entries.items self.now.opened.items self.now.blank.items }
+        requires numbered { AreNumbered source.now self.now.entries.items (number_in self.now.numbers) }
         requires within { number < length self.now.entries.items }
         ensures { IsTrue result → AllNameBlank source.now self.now.entries.items self.now.blank.items (tokens_of self.now.entries.items number) }
     {
@@ -174,8 +200,10 @@ impl Macros {
         tokens: &mut Vec<Token>,
     ) -> Result<(), Stop>
         requires kept { IsKept source.now self.old.entries.items self.old.opened.items self.old.blank.items }
+        requires numbered { AreNumbered source.now self.old.entries.items (number_in self.old.numbers) }
         requires few { length tokens.old.items ≤ 2 ^ 20 }
         ensures entries { self.new.entries.items ≡ self.old.entries.items }
+        ensures numbers { self.new.numbers ≡ self.old.numbers }
         ensures ok { IfOk result (λ _. Entered source.now at self.old.entries.items self.old.opened.items (reverse stack.old.items) tokens.old.items word self.new.opened.items self.new.blank.items (reverse stack.new.items) tokens.new.items) }
         ensures err { IfErr result (λ e. Passes at tokens.old.items (now_replaced source.now at self.old.entries.items self.old.opened.items word) e) }
     {
@@ -199,8 +227,10 @@ impl Macros {
     /// Ends the replacement of a macro, and notes whether it stands for nothing.
     fn leave(&mut self, source: &[u8], number: usize)
         requires kept { IsKept source.now self.old.entries.items self.old.opened.items self.old.blank.items }
+        requires numbered { AreNumbered source.now self.old.entries.items (number_in self.old.numbers) }
         requires within { number < length self.old.entries.items }
         ensures entries { self.new.entries.items ≡ self.old.entries.items }
+        ensures numbers { self.new.numbers ≡ self.old.numbers }
         ensures opened { self.new.opened.items ≡ slice_set self.old.opened.items number false }
         ensures kept { IsKept source.now self.old.entries.items self.new.opened.items self.new.blank.items }
     {
@@ -242,8 +272,10 @@ impl Macros {
         tokens: &mut Vec<Token>,
     ) -> Result<(), Stop>
         requires kept { IsKept source.now self.old.entries.items self.old.opened.items self.old.blank.items }
+        requires numbered { AreNumbered source.now self.old.entries.items (number_in self.old.numbers) }
         requires few { length tokens.old.items ≤ 2 ^ 20 }
         ensures entries { self.new.entries.items ≡ self.old.entries.items }
+        ensures numbers { self.new.numbers ≡ self.old.numbers }
         ensures ok { IfOk result (λ _. Replaced source.now self.old.entries.items self.old.opened.items tokens.old.items word self.new.opened.items self.new.blank.items tokens.new.items) }
         ensures err { IfErr result (λ e. Passes word.at tokens.old.items (now_replaced source.now word.at self.old.entries.items self.old.opened.items word) e) }
     {

@@ -2,7 +2,8 @@ use Rattle.std.proofs.Common.{◌≡◌, ◌<◌, ℕ, List, [], length, Bool, a
 use Rattle.xc_lex.specs.declared.token.Token.{Token}
 use Rattle.xc_lex.specs.declared.macros.Macro.{Macro}
 use Rattle.xc_lex.specs.Source.{Reached, first}
-use Rattle.xc_lex.specs.State.{all_of}
+use Rattle.xc_lex.specs.Numbering.{number_in}
+use Rattle.xc_lex.specs.State.{AreNumbered, all_of}
 use Rattle.xc_lex.specs.Steps.{IsIdle}
 use Rattle.xc_lex.proofs.Sources.{Reached-next}
 use Rattle.xc_lex.proofs.Defining.{IsIdle-empty}
@@ -22,7 +23,13 @@ lines-init c =
     let m = c.new-macros in
     let both = start c.args.source.now m.result.entries.items m.result.opened.items m.result.blank.items c.new-tokens.result.items m.ensures.entries m.ensures.opened m.ensures.blank c.new-tokens.ensures.items in
     let none = ap length c.new-tokens.ensures.items in
-    record { within = omega arith; idle = both.0; reached = both.1; few = omega (arith, none) }
+    record {
+      within = omega arith;
+      idle = both.0;
+      numbered = subst (λ (ms : List Macro). AreNumbered c.args.source.now ms (number_in m.result.numbers)) (sym m.ensures.entries) tt;
+      reached = both.1;
+      few = omega (arith, none);
+    }
 
 pub lines-preserved : goal.lines-preserved
 lines-preserved c =
@@ -31,6 +38,7 @@ lines-preserved c =
     record {
       within = omega (arith, far);
       idle = line.idle;
+      numbered = c.in-Ok.ensures.numbered;
       reached = Reached-next c.args.source.now c.lines.macros.entries.items _ c.lines.at c.in-Ok.end c.lines.tokens.items _ _ _ c.lines.invariant.reached line far;
       few = line.few;
     }

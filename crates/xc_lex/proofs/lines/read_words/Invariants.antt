@@ -7,6 +7,7 @@ invariant-words l = record {
   after : l.start ≤ l.at;
   within : l.at ≤ length l.source;
   entries : l.macros.entries.items ≡ l.fn.macros.entries.items;
+  numbers : l.macros.numbers ≡ l.fn.macros.numbers;
   idle : IsIdle l.source l.fn.macros.entries.items l.macros.opened.items l.macros.blank.items;
   so_far : SoFar l.source l.fn.macros.entries.items l.start l.fn.tokens.items l.at l.fresh l.tokens.items;
   few : length l.tokens.items ≤ 2 ^ 20;

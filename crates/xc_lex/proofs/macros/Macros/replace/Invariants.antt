@@ -5,6 +5,7 @@ use Rattle.xc_lex.proofs.macros.Macros.replace.Given as goal
 abbrev pub invariant-frames : goal.invariant-frames
 invariant-frames l = record {
   entries : l.self.entries.items ≡ l.fn.self.entries.items;
+  numbers : l.self.numbers ≡ l.fn.self.numbers;
   kept : IsKept l.source l.fn.self.entries.items l.self.opened.items l.self.blank.items;
   within : AreWithin l.fn.self.entries.items (reverse l.stack.items);
   unwinds : unwound l.self.opened.items (reverse l.stack.items) ≡ l.fn.self.opened.items;
