@@ -45,8 +45,8 @@ pub put_swap : {X : Type 0} (f : ℕ → X) (c d : ℕ) (u v : X) → (c ≡ d �
 put_swap f c d u v apart = fun_ext (λ x. by_same (put (put f c u) d v x ≡ put (put f d v) c u x) x d
     (λ e. ap (put (put f c u) d v) e ∙ put_at (put f c u) d v ∙ sym (put_other (put f d v) c d u (λ h. apart (sym h)) ∙ put_at f d v) ∙ ap (put (put f d v) c u) (sym e))
     (λ ne. put_other (put f c u) d x v ne ∙ by_same (put f c u x ≡ put (put f d v) c u x) x c
-        (λ e. ap (put f c u) e ∙ put_at f c u ∙ sym (put_at (put f d v) c u) ∙ ap (put (put f d v) c u) (sym e))
-        (λ ne'. put_other f c x u ne' ∙ sym (put_other (put f d v) c x u ne' ∙ put_other f d x v ne))))
+    (λ e. ap (put f c u) e ∙ put_at f c u ∙ sym (put_at (put f d v) c u) ∙ ap (put (put f d v) c u) (sym e))
+    (λ ne'. put_other f c x u ne' ∙ sym (put_other (put f d v) c x u ne' ∙ put_other f d x v ne))))
 
 pub get_set_same : {X : Type 0} (xs : List X) (i : ℕ) (x y : X) → slice_get xs i ≡ Some y → slice_get (slice_set xs i x) i ≡ Some x
 get_set_same [] i x y h = cc

@@ -60,13 +60,13 @@ global_written : (n g v num : ℕ) (env : ℕ → ℕ) (out : List ℕ) (frame :
 global_written n g v num env out frame lt =
     serve_reach (at_base WriteXf (suc g) 0 v) num 0 (world_with n env out frame) (full_with (env g) ∷ []) (full_with (env g)) (full_with v) (beside n g env out frame lt) refl refl
     ∙ ap (λ w. Some (Got 0, w)) (same_world _ _ out
-        (put_swap (globals_with n env) (suc n) (suc g) frame (full_with v ∷ []) (λ e. absurd (omega (arith, e))) ∙ ap (λ m. put m (suc n) frame) (write_is n g v env lt)))
+    (put_swap (globals_with n env) (suc n) (suc g) frame (full_with v ∷ []) (λ e. absurd (omega (arith, e))) ∙ ap (λ m. put m (suc n) frame) (write_is n g v env lt)))
 
 frame_read : (n d v num : ℕ) (env : ℕ → ℕ) (out : List ℕ) (frame : List Cell) → slice_get frame d ≡ Some (full_with v) → serve (On (Reach (at_base ReadXx (suc n) d 0))) num (world_with n env out frame) ≡ Some (Got v, world_with n env out frame)
 frame_read n d v num env out frame cell =
     serve_reach (at_base ReadXx (suc n) d 0) num v (world_with n env out frame) frame (full_with v) (full_with v) (frame_at n env out frame) cell refl
     ∙ ap (λ w. Some (Got v, w)) (same_world _ _ out
-        (put_put (globals_with n env) (suc n) frame (slice_set frame d (full_with v)) ∙ ap (put (globals_with n env) (suc n)) (set_same frame d (full_with v) cell)))
+    (put_put (globals_with n env) (suc n) frame (slice_set frame d (full_with v)) ∙ ap (put (globals_with n env) (suc n)) (set_same frame d (full_with v) cell)))
 
 frame_written : (n d v num : ℕ) (env : ℕ → ℕ) (out : List ℕ) (frame : List Cell) (c : Cell) → slice_get frame d ≡ Some c → serve (On (Reach (at_base WriteXf (suc n) d v))) num (world_with n env out frame) ≡ Some (Got 0, world_with n env out (slice_set frame d (full_with v)))
 frame_written n d v num env out frame c cell =
@@ -153,14 +153,13 @@ module _ (code : Code) (n : ℕ) where
   module _ (few : n ≤ most_globals) where
     one : (i : Instr) (q : Request) (pc : ℕ) (r : Regs) (rf : ℕ → Regs) (v : ℕ) (env env' : ℕ → ℕ) (out out' : List ℕ) (frame frame' : List Cell) → length frame ≡ frame_cells → slice_get code.instrs pc ≡ Some i → effect code.formats (Some i) pc r ≡ Asks q (suc pc) rf
         → serve q (suc (suc n)) (world_with n env out frame) ≡ Some (Got v, world_with n env' out' frame') → last_after q (suc n) ≡ suc n → Follows code (IsSmall n) (i ∷ []) (at_place pc r env out frame) (at_place (suc pc) (rf v) env' out' frame')
-    one i q pc r rf v env env' out out' frame frame' e at eff answer last =
-        (
-          small pc r env out frame e,
-          at_place (suc pc) (rf v) env' out' frame',
-          subst (λ m. Goes_to code (at_place pc r env out frame) (conf (Live (suc pc) (rf v)) (world_with n env' out' frame') m)) last
-            (asks code i q pc (suc pc) r rf v (world_with n env out frame) (world_with n env' out' frame') (suc n) at eff answer (omega (arith, last))),
-          refl,
-        )
+    one i q pc r rf v env env' out out' frame frame' e at eff answer last = (
+      small pc r env out frame e,
+      at_place (suc pc) (rf v) env' out' frame',
+      subst (λ m. Goes_to code (at_place pc r env out frame) (conf (Live (suc pc) (rf v)) (world_with n env' out' frame') m)) last
+          (asks code i q pc (suc pc) r rf v (world_with n env out frame) (world_with n env' out' frame') (suc n) at eff answer (omega (arith, last))),
+      refl,
+    )
 
     abbrev last_two : BinaryOp → ℕ → List Instr
     last_two op d = instr.Load Ld 17 23 d ∷ instr.Binary (operation_of op) 16 17 16 ∷ []
@@ -192,9 +191,9 @@ module _ (code : Code) (n : ℕ) where
         let c4 = at_place (suc pc2) r1 env out rb.frame' in
         let c5 = at_place (suc (suc pc2)) r2 env out rb.frame' in
         let step1 : Follows code (IsSmall n) (save ∷ []) c1 c2 = one save (On (Reach (at_base WriteXf (suc n) d v))) pc1 ra.regs (λ u. ra.regs) 0 env env out out ra.frame' f1 ra.sits.whole has_1.0
-          (reaches_base WriteXf (ra.regs 23) (suc n) d v (suc pc1) (λ u. ra.regs) ra.sits.pointer (omega arith)) (frame_written n d v (suc (suc n)) env out ra.frame' cell.0 cell.1) refl in
+        (reaches_base WriteXf (ra.regs 23) (suc n) d v (suc pc1) (λ u. ra.regs) ra.sits.pointer (omega arith)) (frame_written n d v (suc (suc n)) env out ra.frame' cell.0 cell.1) refl in
         let step2 : Follows code (IsSmall n) (load ∷ []) c3 c4 = one load (On (Reach (at_base ReadXx (suc n) d 0))) pc2 rb.regs (λ u. put rb.regs 17 u) v env env out out rb.frame' rb.frame' rb.sits.whole has_2.0
-          (reaches_base ReadXx (rb.regs 23) (suc n) d 0 (suc pc2) (λ u. put rb.regs 17 u) rb.sits.pointer (omega arith)) (frame_read n d v (suc (suc n)) env out rb.frame' saved) refl in
+        (reaches_base ReadXx (rb.regs 23) (suc n) d 0 (suc pc2) (λ u. put rb.regs 17 u) rb.sits.pointer (omega arith)) (frame_read n d v (suc (suc n)) env out rb.frame' saved) refl in
         let step3 : Follows code (IsSmall n) (apply ∷ []) c4 c5 = (small (suc pc2) r1 env out rb.frame' rb.sits.whole, c5, goes code apply (suc pc2) (suc (suc pc2)) r1 r2 (world_with n env out rb.frame') (suc n) has_2.1.0 refl, refl) in
         let last : Follows code (IsSmall n) (last_two op d) c3 c5 = follows_on code (IsSmall n) (load ∷ []) (apply ∷ []) c3 c4 c5 step2 step3 in
         let middle : Follows code (IsSmall n) (cb ++ last_two op d) c2 c5 = follows_on code (IsSmall n) cb (last_two op d) c2 c3 c5 rb.path last in
@@ -233,7 +232,7 @@ module _ (code : Code) (n : ℕ) where
             at_place (suc pc) r1 env out frame,
             goes code (instr.Li 16 (pointer_to g)) pc (suc pc) r r1 (world_with n env out frame) (suc n) has.0 refl,
             one (instr.Load Ld 16 16 0) (On (Reach (at_base ReadXx (suc g) 0 0))) (suc pc) r1 rf (env g) env env out out frame frame sits.whole has.1.0
-              (reaches_base ReadXx (pointer_to g) (suc g) 0 0 (suc (suc pc)) rf refl (omega arith)) (global_read n g (suc (suc n)) env out frame names) refl,
+                (reaches_base ReadXx (pointer_to g) (suc g) 0 0 (suc (suc pc)) rf refl (omega arith)) (global_read n g (suc (suc n)) env out frame names) refl,
           );
         }
     expr_runs (Binary op a b) pc d r env out frame names room has sits =
@@ -245,7 +244,7 @@ module _ (code : Code) (n : ℕ) where
         let sits1 : Sits ra.regs f1 = record { pointer = ra.sits.pointer; whole = length-set ra.frame' d (full_with (ra.regs 16)) ∙ ra.sits.whole } in
         let has_b = has_front code.instrs (suc pc1) (expr_code b (suc d)) (last_two op d) has_1.1 in
         two_run op ca (expr_code b (suc d)) pc d (eval a env) (eval b env) r env out frame (omega arith) has ra
-          (expr_runs b (suc pc1) (suc d) ra.regs env out f1 names.1 (omega arith) has_b sits1)
+        (expr_runs b (suc pc1) (suc d) ra.regs env out f1 names.1 (omega arith) has_b sits1)
 
     -- ---- statements
 
@@ -272,9 +271,9 @@ module _ (code : Code) (n : ℕ) where
         let c3 = at_place (suc (suc pc1)) r1 env' out re.frame' in
         let step1 : Follows code (IsSmall n) (point ∷ []) c1 c2 = (small pc1 re.regs env out re.frame' re.sits.whole, c2, goes code point pc1 (suc pc1) re.regs r1 (world_with n env out re.frame') (suc n) has_1.0 refl, refl) in
         let served : serve (On (Reach (at_base WriteXf (suc g) 0 (re.regs 16)))) (suc (suc n)) (world_with n env out re.frame') ≡ Some (Got 0, world_with n env' out re.frame') =
-          global_written n g (re.regs 16) (suc (suc n)) env out re.frame' lt ∙ ap (λ u. Some (Got 0, world_with n (put env g u) out re.frame')) re.value in
+        global_written n g (re.regs 16) (suc (suc n)) env out re.frame' lt ∙ ap (λ u. Some (Got 0, world_with n (put env g u) out re.frame')) re.value in
         let step2 : Follows code (IsSmall n) (write ∷ []) c2 c3 = one write (On (Reach (at_base WriteXf (suc g) 0 (re.regs 16)))) (suc pc1) r1 (λ u. r1) 0 env env' out out re.frame' re.frame' re.sits.whole has_1.1.0
-          (reaches_base WriteXf (pointer_to g) (suc g) 0 (re.regs 16) (suc (suc pc1)) (λ u. r1) refl (omega arith)) served refl in
+        (reaches_base WriteXf (pointer_to g) (suc g) 0 (re.regs 16) (suc (suc pc1)) (λ u. r1) refl (omega arith)) served refl in
         let last : Follows code (IsSmall n) (point ∷ write ∷ []) c1 c3 = follows_on code (IsSmall n) (point ∷ []) (write ∷ []) c1 c2 c3 step1 step2 in
         let all : Follows code (IsSmall n) (assign_code g e) c0 c3 = follows_on code (IsSmall n) ce (point ∷ write ∷ []) c0 c1 c3 re.path last in
         record {
@@ -322,13 +321,13 @@ module _ (code : Code) (n : ℕ) where
         let c4 = at_place (suc (suc (suc pc1))) r1 env out' f1 in
         let bytes = text_of format (map (read r1) printed_regs) in
         let line : bytes ≡ line_of code.formats f v =
-          text_one (pieces_of format) u (map (read r1) (drop_one printed_regs)) one_format.2 ∙ ap (λ x. text_of format (x ∷ [])) re.value ∙ ap (λ o. text_of (unwrap_or o []) (v ∷ [])) (sym one_format.1) in
+        text_one (pieces_of format) u (map (read r1) (drop_one printed_regs)) one_format.2 ∙ ap (λ x. text_of format (x ∷ [])) re.value ∙ ap (λ o. text_of (unwrap_or o []) (v ∷ [])) (sym one_format.1) in
         let step1 : Follows code (IsSmall n) (save ∷ []) c1 c2 = one save (On (Reach (at_base WriteXf (suc n) 0 u))) pc1 re.regs (λ x. re.regs) 0 env env out out re.frame' f1 re.sits.whole has_1.0
-          (reaches_base WriteXf (re.regs 23) (suc n) 0 u (suc pc1) (λ x. re.regs) re.sits.pointer (omega arith)) (frame_written n 0 u (suc (suc n)) env out re.frame' cell.0 cell.1) refl in
+        (reaches_base WriteXf (re.regs 23) (suc n) 0 u (suc pc1) (λ x. re.regs) re.sits.pointer (omega arith)) (frame_written n 0 u (suc (suc n)) env out re.frame' cell.0 cell.1) refl in
         let step2 : Follows code (IsSmall n) (load ∷ []) c2 c3 = one load (On (Reach (at_base ReadXx (suc n) 0 0))) (suc pc1) re.regs (λ x. put re.regs 24 x) u env env out out f1 f1 whole1 has_1.1.0
-          (reaches_base ReadXx (re.regs 23) (suc n) 0 0 (suc (suc pc1)) (λ x. put re.regs 24 x) re.sits.pointer (omega arith)) (frame_read n 0 u (suc (suc n)) env out f1 saved) refl in
+        (reaches_base ReadXx (re.regs 23) (suc n) 0 0 (suc (suc pc1)) (λ x. put re.regs 24 x) re.sits.pointer (omega arith)) (frame_read n 0 u (suc (suc n)) env out f1 saved) refl in
         let step3 : Follows code (IsSmall n) (show ∷ []) c3 c4 = one show (Shows bytes) (suc (suc pc1)) r1 (λ x. r1) 0 env env out out' f1 f1 whole1 has_1.1.1.0
-          (ap (λ o. prints o (suc (suc (suc pc1))) r1) one_format.1) (ap (λ b. Some (Got 0, world_with n env (out ++ b) f1)) line) refl in
+        (ap (λ o. prints o (suc (suc (suc pc1))) r1) one_format.1) (ap (λ b. Some (Got 0, world_with n env (out ++ b) f1)) line) refl in
         let last : Follows code (IsSmall n) (load ∷ show ∷ []) c2 c4 = follows_on code (IsSmall n) (load ∷ []) (show ∷ []) c2 c3 c4 step2 step3 in
         let back : Follows code (IsSmall n) (save ∷ load ∷ show ∷ []) c1 c4 = follows_on code (IsSmall n) (save ∷ []) (load ∷ show ∷ []) c1 c2 c4 step1 last in
         let all : Follows code (IsSmall n) (print_code f e) c0 c4 = follows_on code (IsSmall n) ce (save ∷ load ∷ show ∷ []) c0 c1 c4 re.path back in
@@ -346,13 +345,13 @@ module _ (code : Code) (n : ℕ) where
         let front = assign_code g e in
         let a = assign_runs g e pc r env out frame fits.0.0 fits.0.1 (has_front code.instrs pc front (body_code ss) has) sits in
         joined front (body_code ss) pc r env (put env g (eval e env)) (env_after ss (put env g (eval e env))) out out (out_after code.formats ss (put env g (eval e env)) out) frame a
-          (body_runs ss (behind pc front) a.regs (put env g (eval e env)) out a.frame' fits.1 shows (has_back code.instrs pc front (body_code ss) has) a.sits)
+        (body_runs ss (behind pc front) a.regs (put env g (eval e env)) out a.frame' fits.1 shows (has_back code.instrs pc front (body_code ss) has) a.sits)
     body_runs (Print f e ∷ ss) pc r env out frame fits shows has sits =
         let front = print_code f e in
         let out' = out ++ line_of code.formats f (eval e env) in
         let a = print_runs f e pc r env out frame shows.0 fits.0 (has_front code.instrs pc front (body_code ss) has) sits in
         joined front (body_code ss) pc r env env (env_after ss env) out out' (out_after code.formats ss env out') frame a
-          (body_runs ss (behind pc front) a.regs env out' a.frame' fits.1 shows.1 (has_back code.instrs pc front (body_code ss) has) a.sits)
+        (body_runs ss (behind pc front) a.regs env out' a.frame' fits.1 shows.1 (has_back code.instrs pc front (body_code ss) has) a.sits)
     body_runs (Return e ∷ ss) pc r env out frame fits shows has sits =
         let re = expr_runs e pc 0 r env out frame fits.0.0 (omega (arith, fits.0.1)) has sits in
         record { regs = re.regs; frame' = re.frame'; sits = re.sits; path = re.path }

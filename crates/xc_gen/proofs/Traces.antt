@@ -127,30 +127,28 @@ applies_body n formats [] env out fits = refl
 applies_body n formats (Assign g e ∷ ss) env out fits =
     let v = eval e env in
     let rest = acts formats ss (put env g v) in
-    let end = source n (env_after ss (put env g v)) (out_after formats ss (put env g v) out) in
-    (
+    let end = source n (env_after ss (put env g v)) (out_after formats ss (put env g v) out) in (
       suc n,
       omega arith,
       above_is n env,
       source n env out,
       refl,
       subst (λ u. Applies n (source n env out) u end) (sym (main_append (reads e env) (write_act g v ∷ rest) []))
-        (applies_reads n e env out (of_main (write_act g v ∷ rest) ++ []) end fits.0.1.0
-        (suc n, omega arith, above_is n env, source n (put env g v) out, write_served n g v (suc n) env out fits.0.0, applies_body n formats ss (put env g v) out fits.1)),
+          (applies_reads n e env out (of_main (write_act g v ∷ rest) ++ []) end fits.0.1.0
+          (suc n, omega arith, above_is n env, source n (put env g v) out, write_served n g v (suc n) env out fits.0.0, applies_body n formats ss (put env g v) out fits.1)),
     )
 applies_body n formats (Print f e ∷ ss) env out fits =
     let line = line_of formats f (eval e env) in
     let rest = acts formats ss env in
-    let end = source n (env_after ss env) (out_after formats ss env (out ++ line)) in
-    (
+    let end = source n (env_after ss env) (out_after formats ss env (out ++ line)) in (
       suc n,
       omega arith,
       above_is n env,
       source n env out,
       refl,
       subst (λ u. Applies n (source n env out) u end) (sym (main_append (reads e env) (print_act line ∷ rest) []))
-        (applies_reads n e env out (of_main (print_act line ∷ rest) ++ []) end fits.0.0
-        (suc n, omega arith, above_is n env, source n env (out ++ line), refl, applies_body n formats ss env (out ++ line) fits.1)),
+          (applies_reads n e env out (of_main (print_act line ∷ rest) ++ []) end fits.0.0
+          (suc n, omega arith, above_is n env, source n env (out ++ line), refl, applies_body n formats ss env (out ++ line) fits.1)),
     )
 applies_body n formats (Return e ∷ ss) env out fits =
     (suc n, omega arith, above_is n env, source n env out, refl, applies_reads n e env out [] (source n env out) fits.0.0 refl)
@@ -171,6 +169,7 @@ first_is n = same_world (segs_of (first_globals n)) (globals_with n (λ x. 0)) [
     by : (g : ℕ) (b : Bool) → nat_lt g n ≡ b → unwrap_or (slice_get (replicate n (fresh ∷ [])) g) [] ≡ cond b (fresh ∷ []) []
     by g true e = ap (λ o. unwrap_or o []) (rep_some n g (fresh ∷ []) (ltb-true g n e))
     by g false e = ap (λ o. unwrap_or o []) (rep_none n g (fresh ∷ []) (ltb-false g n e))
+
     at : (g : ℕ) → segs_of (first_globals n) g ≡ globals_with n (λ x. 0) g
     at zero = refl
     at (suc g) = by g (nat_lt g n) refl
@@ -202,7 +201,7 @@ has_run p fits =
     let t = acts p.formats p.body (λ x. 0) in
     record {
       applies = subst (λ w. Applies n w (of_main (whole_trace p)) (last_world p)) (sym (first_is n))
-        (suc n, omega arith, above_is n (λ x. 0), source n (λ x. 0) [], refl, subst (λ l. Applies n (source n (λ x. 0) []) l (last_world p)) (append-nil (of_main t)) (applies_body n p.formats p.body (λ x. 0) [] fits));
+          (suc n, omega arith, above_is n (λ x. 0), source n (λ x. 0) [], refl, subst (λ l. Applies n (source n (λ x. 0) []) l (last_world p)) (append-nil (of_main t)) (applies_body n p.formats p.body (λ x. 0) [] fits));
       trace = subst (λ u. (k : ℕ) × (rest : List Action) × (trace_of (called p k (replies_of u)) ≡ u ++ rest)) (sym (part_main (whole_trace p))) (1, [], ap trace_of (whole_is p) ∙ sym (append-nil (whole_trace p)));
       only = λ s. part_other s (whole_trace p);
     }

@@ -93,16 +93,22 @@ module _ (p : Program) (code : Code) (fits : Fits p) (globals : code.globals ≡
       let c2 = at_place code n 2 r2 no_values [] frame in
       let c3 = at_place code n pc r3 env out frame' in
       let c4 = conf (Live (suc pc) r3) (last_world p) (suc n) in
-      let enter : Follows code (IsSmall n) enter_code first_conf c2 =
-        (small_source n n (Live 0 no_values) no_values [] (omega arith), c1, goes code (instr.Li 17 frame_cells) 0 1 no_values r1 (source n no_values []) n has.0 refl,
-        (small_source n n (Live 1 r1) no_values [] (omega arith), c2, asks code (instr.NewSeg 23 17) (On (New frame_cells)) 1 2 r1 (λ v. put r1 23 v) pointer (source n no_values []) (world_with n no_values [] frame) n has.1.0 refl refl (omega (arith, fits.few)), refl)) in
+      let enter : Follows code (IsSmall n) enter_code first_conf c2 = (
+        small_source n n (Live 0 no_values) no_values [] (omega arith),
+        c1,
+        goes code (instr.Li 17 frame_cells) 0 1 no_values r1 (source n no_values []) n has.0 refl,
+        (small_source n n (Live 1 r1) no_values [] (omega arith), c2, asks code (instr.NewSeg 23 17) (On (New frame_cells)) 1 2 r1 (λ v. put r1 23 v) pointer (source n no_values []) (world_with n no_values [] frame) n has.1.0 refl refl (omega (arith, fits.few)), refl),
+      ) in
       let middle : Follows code (IsSmall n) body c2 c3 = subst (λ o. Follows code (IsSmall n) body c2 (at_place code n pc r3 env o frame')) out_is run_body.path in
       let freed : serve (On (Free (suc n))) (suc (suc n)) (world_with n env out frame') ≡ Some (Got 0, last_world p) =
-        serve_free (suc n) (suc (suc n)) (world_with n env out frame') there.0 there.1 (put_at (globals_with n env) (suc n) frame' ∙ there.2)
-        ∙ ap (λ w. Some (Got 0, w)) (same_world _ _ out (put_put (globals_with n env) (suc n) frame' [] ∙ put_same (globals_with n env) (suc n) [] (above_is n env))) in
-      let leave : Follows code (IsSmall n) leave_code c3 last_conf =
-        (small code n pc r3 env out frame' run_body.sits.whole, c4, asks code (instr.Free 23) (On (Free (suc n))) pc (suc pc) r3 (λ v. r3) 0 (world_with n env out frame') (last_world p) (suc n) has_end.0 (frees_base (r3 23) (suc n) (suc pc) r3 run_body.sits.pointer) freed (omega (arith, fits.few)),
-        (small_source n (suc n) (Live (suc pc) r3) env out (omega arith), last_conf, quits code instr.Quit (suc pc) r3 (last_world p) (suc n) has_end.1.0 refl, refl)) in
+      serve_free (suc n) (suc (suc n)) (world_with n env out frame') there.0 there.1 (put_at (globals_with n env) (suc n) frame' ∙ there.2)
+      ∙ ap (λ w. Some (Got 0, w)) (same_world _ _ out (put_put (globals_with n env) (suc n) frame' [] ∙ put_same (globals_with n env) (suc n) [] (above_is n env))) in
+      let leave : Follows code (IsSmall n) leave_code c3 last_conf = (
+        small code n pc r3 env out frame' run_body.sits.whole,
+        c4,
+        asks code (instr.Free 23) (On (Free (suc n))) pc (suc pc) r3 (λ v. r3) 0 (world_with n env out frame') (last_world p) (suc n) has_end.0 (frees_base (r3 23) (suc n) (suc pc) r3 run_body.sits.pointer) freed (omega (arith, fits.few)),
+        (small_source n (suc n) (Live (suc pc) r3) env out (omega arith), last_conf, quits code instr.Quit (suc pc) r3 (last_world p) (suc n) has_end.1.0 refl, refl),
+      ) in
       follows_on code (IsSmall n) enter_code (body ++ leave_code) first_conf c2 last_conf enter
       (follows_on code (IsSmall n) body leave_code c2 c3 last_conf middle leave)
 

@@ -38,24 +38,24 @@ access_served m out act = by_cell (slice_get (segs_in m act.place.seg) act.place
   where
     At : Option (Option (ℕ × Cell)) → Type 0
     At o = Serves (answer_of o) (world_in m out) (world_in (left_by m act.place o) out) (serve (On (Reach act)) 0 (world_in m out))
+
     by_table : (c : Cell) → slice_get (segs_in m act.place.seg) act.place.off ≡ Some c → (o : Option (ℕ × Cell)) → on_cell act.kind act.value c ≡ o → At (Some o)
-    by_table c e None f =
-        (
-          ap (λ u. with_out (put_back (reached u act (segs_in m act.place.seg)) act.place.seg (segs_in m)) out) e
-            ∙ ap (λ u. with_out (put_back (left_in u act.place.off (segs_in m act.place.seg)) act.place.seg (segs_in m)) out) f,
-          refl,
-        )
+    by_table c e None f = (
+      ap (λ u. with_out (put_back (reached u act (segs_in m act.place.seg)) act.place.seg (segs_in m)) out) e
+          ∙ ap (λ u. with_out (put_back (left_in u act.place.off (segs_in m act.place.seg)) act.place.seg (segs_in m)) out) f,
+      refl,
+    )
     by_table c e (Some x) f =
         ap (λ u. with_out (put_back (reached u act (segs_in m act.place.seg)) act.place.seg (segs_in m)) out) e
         ∙ ap (λ u. with_out (put_back (left_in u act.place.off (segs_in m act.place.seg)) act.place.seg (segs_in m)) out) f
         ∙ ap (λ s. Some (Got x.0, record { segs = s; out = out })) (sym (segs_put m act.place x.1 (get m act.place.seg) refl))
+
     by_cell : (c : Option Cell) → slice_get (segs_in m act.place.seg) act.place.off ≡ c → At (outcome m act)
     by_cell None e =
         let none : outcome m act ≡ None = ap (option_map (on_cell act.kind act.value)) (cell_in (get m act.place.seg) act.place.off ∙ e) in
-        subst At (sym none)
-        (
+        subst At (sym none) (
           ap (λ u. with_out (put_back (reached u act (segs_in m act.place.seg)) act.place.seg (segs_in m)) out) e
-            ∙ ap (λ s. Some (Dead, record { segs = s; out = out })) (put_same (segs_in m) act.place.seg (segs_in m act.place.seg) refl),
+              ∙ ap (λ s. Some (Dead, record { segs = s; out = out })) (put_same (segs_in m) act.place.seg (segs_in m act.place.seg) refl),
           refl,
         )
     by_cell (Some c) e =

@@ -7,11 +7,10 @@ ghost use Rattle.xc_isa.specs.Machine.{Live, step, HasQuit};
 ghost use Rattle.xc_machine.specs.Registers.{regs_of};
 ghost use Rattle.xc_machine.specs.Places.{place_of, answered};
 
+use crate::stream::Stream;
 use std::alloc::Global;
 use xc_isa::{BinaryOp, Code, Instr, LoadKind, Reg, StoreKind, TrapKind};
 use xc_word::{Access, Applied, Kind, Memory, Place};
-
-use crate::stream::Stream;
 
 /// What came of a step. Only `Went` changes the machine.
 #[derive(Clone, Copy, Debug, PartialEq, Eq)]

@@ -6,12 +6,11 @@ ghost use Rattle.xc_action.specs.World.{segs_of};
 ghost use Rattle.xc_isa.specs.Machine.{start};
 ghost use Rattle.xc_machine.specs.Shows.{segs_in};
 
+use crate::machine::{Machine, Stepped};
+use crate::stream::Stream;
 use std::alloc::Global;
 use xc_isa::{Code, TrapKind};
 use xc_word::Memory;
-
-use crate::machine::{Machine, Stepped};
-use crate::stream::Stream;
 
 /// How a run ended, and after how many steps.
 #[derive(Clone, Copy, Debug, PartialEq, Eq)]
