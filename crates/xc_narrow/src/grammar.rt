@@ -22,14 +22,6 @@ pub(crate) struct Parsed<'a> {
     rest: &'a [Token],
 }
 
-/// What sums are parsed by: the one name, and how many turns of operators there may be.
-#[derive(Clone, Copy)]
-struct Names<'a> {
-    alloc: Global,
-    name: &'a [u8],
-    turns: u32,
-}
-
 fn product_op(mark: u8) -> Option<BinaryOp>
     ensures { result ≡ product_op_of mark }
 {
@@ -80,7 +72,7 @@ fn joined<'a>(
     requires room { left.height + right.height < 2 ^ 31 }
     requires left { Sound left }
     requires right { Sound right }
-    ensures value { IfOk result (λ p. parsed_of p ≡ joined_of op (parsed_of left) (parsed_of right)) }
+    ensures value { IfOk result (λ p. parsed_of p ≡ joined_of op (parsed_of left.entry) (parsed_of right.entry)) }
     ensures sound { IfOk result Sound }
 {
     let Parsed {
@@ -100,4 +92,38 @@ fn joined<'a>(
         height: height.max(right_height) + 1,
         rest,
     })
+}
+
+/// The one name, a number, or a sum in parentheses.
+#[cycle(sums)]
+fn parse_prim<'a>(alloc: Global, name: &[u8], depth: u32, turns: u32, tokens: &'a [Token]) -> Result<Option<Parsed<'a>>, AllocError>
+    requires { Small depth turns }
+    ensures value { IfOk result (λ o. option_map parsed_of o ≡ prim name.now (sum name.now depth turns) tokens.now) }
+    ensures sound { IfOk result (λ o. IfSome o Sound) }
+    ensures low { IfOk result (λ o. IfSome o (λ p. p.height ≤ span depth turns)) }
+{
+    match tokens {
+        [Token::Number(value), rest @ ..] => Ok(Some(Parsed {
+            expr: Expr::Number(*value),
+            height: 1,
+            rest,
+        })),
+        [Token::Word(word), rest @ ..] => {
+            if word.as_slice() != name {
+                return Ok(None);
+            }
+            Ok(Some(Parsed {
+                expr: Expr::Global(0),
+                height: 1,
+                rest,
+            }))
+        }
+        [Token::Mark(b'('), rest @ ..] => {
+            let Some(inner) = parse_sum(alloc, name, depth, turns, rest)? else {
+                return Ok(None);
+            };
+            Ok(closed(inner))
+        }
+        _ => Ok(None),
+    }
 }

@@ -68,7 +68,12 @@ enum Conversion {
 pub(crate) fn is_reserved(word: &[u8]) -> bool
     ensures { result ≡ is_reserved_word word.now }
 {
-    RESERVED.iter().any(|r| *r == word)
+    for r in RESERVED {
+        if r == word {
+            return true;
+        }
+    }
+    false
 }
 
 /// Whether a format has no conversions but `%d`, `%ld` and `%%`.

@@ -1,6 +1,6 @@
 -- A map of vectors, seen as a finite map of lists.
 use Rattle.std.proofs.Common.{◌≡◌, ℕ, Bool, true, false, cond, List, [], ◌∷◌, map, Option, Some, None, refl, sym, ap, ◌∙◌}
-use Rattle.std.specs.Prelude.{is_some, IfNone, replicate, slice_get, slice_set}
+use Rattle.std.specs.Prelude.{is_some, IfNone, replicate, slice_get}
 use Rattle.std.specs.Global.{Vec}
 use Rattle.std.specs.Option.{option_map, option_and_then}
 use Rattle.std.specs.Ordering.{nat_cmp}
@@ -12,7 +12,10 @@ use Rattle.std.specs.FinMap.{find, get, insert, remove, from_entries, get-from_e
 use Rattle.std.proofs.lemmas.Map.Lookups.{exact_unsigned}
 use Rattle.xc_word.specs.declared.memory.Cell.{Cell}
 use Rattle.xc_word.specs.declared.memory.Place.{Place}
-use Rattle.xc_word.specs.Cells.{Segments, cell_at, put_cell, put_in, fresh}
+use Rattle.xc_word.specs.declared.memory.Access.{Access}
+use Rattle.xc_word.specs.Cells.{Segments, cell_at, put_in, fresh}
+use Rattle.xc_word.specs.Table.{on_cell, outcome, outcome_in, left_by, cells_left}
+use Rattle.xc_word.proofs.Maps.{assign-get}
 
 abbrev pub items_of : List (ℕ × Vec Cell) → List (ℕ × List Cell)
 items_of es = map (λ e. (e.0, e.1.items)) es
@@ -81,13 +84,26 @@ module _ (m : BTreeMap ℕ (Vec Cell)) (now : Segments) (is : seen m ≡ now) wh
   pub remove_now : (n : BTreeMap ℕ (Vec Cell)) (s : ℕ) → ((q : ℕ) → tree.get nat_cmp n q ≡ cond (is_at (nat_cmp s) q) None (tree.get nat_cmp m q)) → seen n ≡ remove now s
   remove_now n s h = remove_seen m n s h ∙ ap (λ x. remove x s) is
 
-  -- one vector has other cells
-  pub put_now : (n : BTreeMap ℕ (Vec Cell)) (p : Place) (c : Cell) (v w : Vec Cell) → tree.get nat_cmp m p.seg ≡ Some v → w.items ≡ slice_set v.items p.off c
-      → ((q : ℕ) → tree.get nat_cmp n q ≡ cond (is_at (nat_cmp p.seg) q) (Some w) (tree.get nat_cmp m q)) → seen n ≡ put_cell now p c
-  put_now n p c v w e f h = insert_now n p.seg w h ∙ ap (insert now p.seg) f ∙ sym (ap (put_in now p c) (get_now p.seg ∙ ap items_at e))
+  -- an access to the cells of one vector
+  module _ (n : BTreeMap ℕ (Vec Cell)) (act : Access) (v w : Vec Cell) (e : tree.get nat_cmp m act.place.seg ≡ Some v)
+      (f : w.items ≡ cells_left v.items act.place.off (outcome_in v.items act))
+      (h : (q : ℕ) → tree.get nat_cmp n q ≡ cond (is_at (nat_cmp act.place.seg) q) (Some w) (tree.get nat_cmp m q)) where
+    here : get now act.place.seg ≡ Some v.items
+    here = get_now act.place.seg ∙ ap items_at e
 
-  pub put_now_none : (p : Place) (c : Cell) → tree.get nat_cmp m p.seg ≡ None → now ≡ put_cell now p c
-  put_now_none p c e = sym (ap (put_in now p c) (get_now p.seg ∙ ap items_at e))
+    pub outcome_now : outcome now act ≡ outcome_in v.items act
+    outcome_now = ap (λ o. option_map (on_cell act.kind act.value) (option_and_then (λ cells. slice_get cells act.place.off) o)) here
+
+    left_here : (x : Option (Option (ℕ × Cell))) → insert now act.place.seg (cells_left v.items act.place.off x) ≡ left_by now act.place x
+    left_here None = assign-get now act.place.seg (Some v.items) here
+    left_here (Some None) = assign-get now act.place.seg (Some v.items) here
+    left_here (Some (Some x)) = sym (ap (put_in now act.place x.1) here)
+
+    pub left_now : seen n ≡ left_by now act.place (outcome now act)
+    left_now = insert_now n act.place.seg w h ∙ ap (insert now act.place.seg) f ∙ left_here (outcome_in v.items act) ∙ ap (left_by now act.place) (sym outcome_now)
+
+  pub outcome_none : (act : Access) → tree.get nat_cmp m act.place.seg ≡ None → outcome now act ≡ None
+  outcome_none act e = ap (λ o. option_map (on_cell act.kind act.value) (option_and_then (λ cells. slice_get cells act.place.off) o)) (get_now act.place.seg ∙ ap items_at e)
 
   pub live_now : (s : ℕ) → is_some (get now s) ≡ is_some (tree.get nat_cmp m s)
   live_now s = ap is_some (get_now s) ∙ kept (tree.get nat_cmp m s)

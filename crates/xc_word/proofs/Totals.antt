@@ -7,11 +7,12 @@ use Rattle.std.specs.declared.cmp.Ordering.{Ordering}
 use Rattle.std.specs.declared.cmp.Ordering.TheVariants.{Less, Equal, Greater}
 use Rattle.std.proofs.lemmas.List.Sums.{sum_by-cons}
 use Rattle.std.specs.Cmp.{nat_cmp_total}
-use Rattle.std.specs.FinMap.{find, put, get, insert, remove, entries, entries-insert, get-entries}
+use Rattle.std.specs.FinMap.{find, put, get, insert, remove, entries, empty, entries-insert, get-entries, len-entries, len-empty}
 use Rattle.std.proofs.lemmas.List.{length-set, length-replicate}
 use Rattle.xc_word.specs.declared.memory.Cell.{Cell}
 use Rattle.xc_word.specs.declared.memory.Place.{Place}
 use Rattle.xc_word.specs.Cells.{Segments, put_cell, put_in, fresh}
+use Rattle.xc_word.specs.Table.{left_by}
 use Rattle.xc_word.specs.Total.{total, words_of}
 use Rattle.xc_word.proofs.Maps.{assign-get, assign-assign, get-assign_same}
 
@@ -38,6 +39,14 @@ sum_put : (k : ℕ) (v : List Cell) (es : List (ℕ × List Cell)) → find nat_
 sum_put k v [] h = refl
 sum_put k v (e ∷ es) h = put_step k v e es (put nat_cmp k v es) (nat_cmp k e.0) (sum_put k v es) h
 
+no_entries : (es : List (ℕ × List Cell)) → length es ≡ 0 → words es ≡ 0
+no_entries [] e = refl
+no_entries (x ∷ es) e = absurd (omega arith)
+
+-- no segments, no words
+pub total_empty : total empty ≡ 0
+total_empty = no_entries (entries empty) (sym (len-entries empty) ∙ len-empty nat_cmp (List Cell))
+
 total_new : (m : Segments) (s : ℕ) (cells : List Cell) → get m s ≡ None → total (insert m s cells) ≡ total m + length cells
 total_new m s cells h = ap (sum_by (λ e. length e.1)) (entries-insert nat_cmp_total m s cells) ∙ sum_put s cells (entries m) (sym (get-entries m s) ∙ h)
 
@@ -53,8 +62,14 @@ put_same m p c (Some cells) h =
     omega (arith, total_set m p.seg (slice_set cells p.off c), total_gone m p.seg cells h, length-set cells p.off c)
 
 -- a write leaves the words as many as they were
-pub total_put : (m : Segments) (p : Place) (c : Cell) → total (put_cell m p c) ≡ total m
+total_put : (m : Segments) (p : Place) (c : Cell) → total (put_cell m p c) ≡ total m
 total_put m p c = put_same m p c (get m p.seg) refl
+
+-- an access leaves the words as many as they were
+pub total_left : (m : Segments) (p : Place) (o : Option (Option (ℕ × Cell))) → total (left_by m p o) ≡ total m
+total_left m p None = refl
+total_left m p (Some None) = refl
+total_left m p (Some (Some x)) = total_put m p x.1
 
 removed_words : (m : Segments) (s : ℕ) (o : Option (List Cell)) → get m s ≡ o → total (remove m s) + length (unwrap_or o []) ≡ total m
 removed_words m s None h = omega (arith, ap total (assign-get m s None h))

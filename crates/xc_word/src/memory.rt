@@ -1,10 +1,10 @@
 //! Segments of tagged words, and the accesses to one of them.
 
-ghost use Rattle.std.specs.Prelude.{◌≡◌, ◌≤◌, ◌+◌, ◌↔◌, IsSome, OnOk, OnErr, IsErrOf, is_ok, is_some, replicate, slice_get, slice_set};
+ghost use Rattle.std.specs.Prelude.{◌≡◌, ◌≤◌, ◌+◌, ◌↔◌, IsSome, OnOk, OnErr, IsErrOf, is_ok, is_some, replicate, slice_get};
 ghost use Rattle.std.specs.Ordering.{nat_cmp};
 ghost use Rattle.std.specs.FinMap as map;
-ghost use Rattle.xc_word.specs.Cells.{cell_at, put_cell, fresh};
-ghost use Rattle.xc_word.specs.Table.{full_with, empty_with, on_cell, outcome, answer_of, left_by};
+ghost use Rattle.xc_word.specs.Cells.{cell_at, fresh};
+ghost use Rattle.xc_word.specs.Table.{full_with, empty_with, on_cell, outcome, outcome_in, answer_of, left_by, cells_left};
 ghost use Rattle.xc_word.specs.Total.{total, words_of};
 
 use std::alloc::Global;
@@ -126,14 +126,20 @@ fn cell_of(cells: &[Cell], off: u32) -> Option<Cell>
     cells.get(off as usize).copied()
 }
 
-/// Sets a cell, where there is one.
-fn set_cell(cells: &mut Vec<Cell>, off: u32, cell: Cell)
-    ensures { cells.new.items ≡ slice_set cells.old.items off cell }
+/// Makes an access to the cells of its segment.
+fn apply_in(cells: &mut Vec<Cell>, act: &Access) -> Applied
+    ensures answer { result ≡ answer_of (outcome_in cells.old.items act.now) }
+    ensures left { cells.new.items ≡ cells_left cells.old.items act.now.place.off (outcome_in cells.old.items act.now) }
 {
-    let at = off as usize;
-    if at < cells.len() {
-        cells[at] = cell;
+    let at = act.place.off as usize;
+    if at >= cells.len() {
+        return Applied::Bad;
     }
+    let Some((answer, next)) = touched(act.kind, act.value, cells[at]) else {
+        return Applied::Blocked;
+    };
+    cells[at] = next;
+    Applied::Done(answer)
 }
 
 /// The live segments, by their numbers.
@@ -209,15 +215,6 @@ impl Memory {
         if removed.is_some() { Ok(()) } else { Err(Dead) }
     }
 
-    /// Sets a cell, where the place is in a live segment.
-    fn put(&mut self, place: Place, cell: Cell)
-        ensures { self.new ≡ put_cell self.old place cell }
-    {
-        if let Some(cells) = self.segments.get_mut(&place.seg) {
-            set_cell(cells, place.off, cell);
-        }
-    }
-
     /// Makes one access. It takes no memory of the host.
     pub fn apply(&mut self, act: &Access) -> Applied
         ensures answer { result ≡ answer_of (outcome self.old act.now) }
@@ -226,13 +223,9 @@ impl Memory {
         ensures bad { result ≡ Applied.Bad → self.new ≡ self.old }
         ensures blocked { result ≡ Applied.Blocked → self.new ≡ self.old }
     {
-        let Some(cell) = self.cell(act.place) else {
-            return Applied::Bad;
-        };
-        let Some((answer, next)) = touched(act.kind, act.value, cell) else {
-            return Applied::Blocked;
-        };
-        self.put(act.place, next);
-        Applied::Done(answer)
+        match self.segments.get_mut(&act.place.seg) {
+            Some(cells) => apply_in(cells, act),
+            None => Applied::Bad,
+        }
     }
 }

@@ -1,0 +1,6 @@
+pub mod Segments
+pub mod Touches
+pub mod Histories
+pub mod Deeds
+pub mod Edits
+pub mod Halves

@@ -1,0 +1,14 @@
+//! Copies of trees: each equals what it copies, and shares nothing with it. Each call answers `AllocError` for want
+//! of memory alone.
+#![tactic(auto)]
+
+mod expr;
+mod stmt;
+mod ty;
+
+pub use expr::copy_expr;
+pub use stmt::copy_stmt;
+pub use ty::copy_ty;
+
+#[cfg(test)]
+mod tests;

@@ -1,0 +1,12 @@
+pub mod Exchange
+pub mod Owner
+pub mod OneLoop
+pub mod OpenLoops
+pub mod Forward
+pub mod Counter
+pub mod LetterP
+pub mod SourceRuns
+pub mod LetterPTraps
+pub mod Places
+pub mod GoesBackProof
+pub mod Fills

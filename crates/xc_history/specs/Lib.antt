@@ -1,0 +1,5 @@
+pub mod History
+pub mod Runs
+pub mod Counter
+pub mod GoesBack
+pub mod TwoFills

@@ -1,0 +1,12 @@
+pub mod Values
+pub mod Lookups
+pub mod Expansion
+pub mod Frames
+pub mod Scanning
+pub mod Reading
+pub mod Defining
+pub mod Directives
+pub mod Faults
+pub mod Sources
+pub mod Unique
+pub mod NumberingLemmas

@@ -1,0 +1,163 @@
+-- The macros as the code keeps them, and what is still to be replaced.
+use Rattle.std.specs.Prelude.{◌≡◌, ◌≤◌, ◌<◌, ℕ, zero, suc, ◌+◌, ◌^◌, List, [], ◌∷◌, ◌++◌, length, map, sum_by, Bool, true, false, ◌==◌, if◌then◌else◌, Option, None, IsSome, slice_index_or, slice_set, drop}
+use Rattle.std.specs.List.{flat_map, list_any}
+use Rattle.std.specs.Option.{option_map_or}
+use Rattle.std.specs.Str.{bytes_eq}
+use Rattle.xc_span.specs.declared.Span.{Span}
+use Rattle.xc_lex.specs.declared.token.Token.{Token}
+use Rattle.xc_lex.specs.declared.token.TokenKind.TheVariants.{Name}
+use Rattle.xc_lex.specs.declared.macros.Macro.{Macro}
+use Rattle.xc_lex.specs.declared.macros.Frame.{Frame}
+use Rattle.xc_lex.specs.declared.macros.Turn.{Turn}
+use Rattle.xc_lex.specs.declared.macros.Turn.TheVariants.{Keep, Skip, Enter}
+use Rattle.xc_lex.specs.declared.stop.Stop.{Stop}
+use Rattle.xc_lex.specs.declared.stop.Stop.TheVariants.{NoMemory, At}
+use Rattle.xc_lex.specs.Macros.{Macros, bytes_of, without, replacement, replaced}
+
+abbrev pub entry_of : List ℕ → Macro → List ℕ × List Token
+entry_of source m = (bytes_of source m.name, m.body.items)
+
+abbrev pub all_of : List ℕ → List Macro → Macros
+all_of source ms = map (entry_of source) ms
+
+-- those that are not opened
+abbrev pub visible : List ℕ → List Macro → List Bool → Macros
+visible source [] opened = []
+visible source (m ∷ ms) [] = entry_of source m ∷ visible source ms []
+visible source (m ∷ ms) (true ∷ opened) = visible source ms opened
+visible source (m ∷ ms) (false ∷ opened) = entry_of source m ∷ visible source ms opened
+
+-- the number of the macro of this name, or how many macros there are
+abbrev pub index_of : List ℕ → List Macro → List ℕ → ℕ
+index_of source [] name = 0
+index_of source (m ∷ ms) name = if bytes_eq (bytes_of source m.name) name then 0 else suc (index_of source ms name)
+
+-- no two have one name
+abbrev pub AreApart : List ℕ → List Macro → Type 0
+AreApart source [] = Unit {0}
+AreApart source (m ∷ ms) = (index_of source ms (bytes_of source m.name) ≡ length ms) × AreApart source ms
+
+-- each name has a number
+abbrev pub AreNumbered : List ℕ → List Macro → (List ℕ → Option ℕ) → Type 0
+AreNumbered source [] numbers = Unit {0}
+AreNumbered source (m ∷ ms) numbers = IsSome (numbers (bytes_of source m.name)) × AreNumbered source ms numbers
+
+abbrev pub tokens_of : List Macro → ℕ → List Token
+tokens_of [] i = []
+tokens_of (m ∷ ms) zero = m.body.items
+tokens_of (m ∷ ms) (suc i) = tokens_of ms i
+
+abbrev pub is_set : List Bool → ℕ → Bool
+is_set bs i = slice_index_or bs i false
+
+abbrev pub is_in : ℕ → List ℕ → Bool
+is_in i known = list_any (λ j. j == i) known
+
+-- a token is the name of a macro
+pub record Names (source : List ℕ) (ms : List Macro) (t : Token) (i : ℕ) : Type 0 where
+  pub kind : t.kind ≡ Name
+  pub index : i ≡ index_of source ms (bytes_of source t.text)
+  pub within : i < length ms
+
+-- or of none, whatever is opened
+abbrev pub NamesNone : List ℕ → List Macro → Token → Type 0
+NamesNone source ms t = (opened : List Bool) → replacement source (visible source ms opened) t ≡ None
+
+-- a token is the name of a macro with a flag
+abbrev pub NamesBlank : List ℕ → List Macro → List Bool → Token → Type 0
+NamesBlank source ms blank t = (i : ℕ) × Names source ms t i × (is_set blank i ≡ true)
+
+abbrev pub AllNameBlank : List ℕ → List Macro → List Bool → List Token → Type 0
+AllNameBlank source ms blank [] = Unit {0}
+AllNameBlank source ms blank (t ∷ ts) = NamesBlank source ms blank t × AllNameBlank source ms blank ts
+
+-- each of the tokens is the name of one of these macros
+abbrev pub AreNamesOf : List ℕ → List Macro → List ℕ → List Token → Type 0
+AreNamesOf source ms known [] = Unit {0}
+AreNamesOf source ms known (t ∷ ts) =
+    ((i : ℕ) × Names source ms t i × (is_in i known ≡ true)) × AreNamesOf source ms known ts
+
+-- macros that expand to nothing, each of names of those behind it
+abbrev pub AreBlank : List ℕ → List Macro → List ℕ → Type 0
+AreBlank source ms [] = Unit {0}
+AreBlank source ms (i ∷ known) = (is_in i known ≡ false) × AreNamesOf source ms known (tokens_of ms i) × AreBlank source ms known
+
+-- the flags name macros that expand to nothing, and none of them is opened
+pub record FlagsFit (source : List ℕ) (ms : List Macro) (opened blank : List Bool) : Type 0 where
+  pub known : List ℕ
+  pub are_blank : AreBlank source ms known
+  pub flagged : (i : ℕ) → is_set blank i ≡ is_in i known
+  pub closed : (i : ℕ) → is_in i known ≡ true → is_set opened i ≡ false
+
+-- the macros as they are kept
+pub record IsKept (source : List ℕ) (ms : List Macro) (opened blank : List Bool) : Type 0 where
+  pub opened_len : length opened ≡ length ms
+  pub blank_len : length blank ≡ length ms
+  pub apart : AreApart source ms
+  pub flags : FlagsFit source ms opened blank
+
+-- what a token is replaced by under the visible macros
+abbrev pub now_replaced : List ℕ → Span → List Macro → List Bool → Token → List Token
+now_replaced source at ms opened t = replaced source at (length (visible source ms opened)) (visible source ms opened) t
+
+-- what the frames, the innermost first, have still to give
+abbrev pub pending : List ℕ → Span → List Macro → List Bool → List Frame → List Token
+pending source at ms opened [] = []
+pending source at ms opened (f ∷ fs) =
+    flat_map (now_replaced source at ms opened) (drop f.next (tokens_of ms f.number)) ++ pending source at ms (slice_set opened f.number false) fs
+
+-- the flags once all frames are left
+abbrev pub unwound : List Bool → List Frame → List Bool
+unwound opened [] = opened
+unwound opened (f ∷ fs) = unwound (slice_set opened f.number false) fs
+
+-- the numbers of the frames are numbers of macros
+abbrev pub AreWithin : List Macro → List Frame → Type 0
+AreWithin ms [] = Unit {0}
+AreWithin ms (f ∷ fs) = (f.number < length ms) × AreWithin ms fs
+
+-- the next token of a frame, and the frame behind it
+pub record NextOf (ms : List Macro) (f : Frame) (t : Token) (g : Frame) : Type 0 where
+  pub token : drop f.next (tokens_of ms f.number) ≡ t ∷ drop (f.next + 1) (tokens_of ms f.number)
+  pub frame : g ≡ record f { next = f.next + 1 }
+
+-- how many steps a token takes, at most
+abbrev pub cost : List ℕ → ℕ → Macros → Token → ℕ
+cost source zero ms t = 2
+cost source (suc n) ms t = 2 + option_map_or (λ body. sum_by (cost source n (without (bytes_of source t.text) ms)) body) (replacement source ms t) 0
+
+abbrev pub now_cost : List ℕ → List Macro → List Bool → Token → ℕ
+now_cost source ms opened t = cost source (length (visible source ms opened)) (visible source ms opened) t
+
+-- and how many all frames take
+abbrev pub frames_cost : List ℕ → List Macro → List Bool → List Frame → ℕ
+frames_cost source ms opened [] = 0
+frames_cost source ms opened (f ∷ fs) =
+    1 + sum_by (now_cost source ms opened) (drop f.next (tokens_of ms f.number)) + frames_cost source ms (slice_set opened f.number false) fs
+
+-- the token is kept as it is, or stands for nothing, or for the tokens of a macro that is not opened
+abbrev pub TurnFits : List ℕ → List Macro → List Bool → List Bool → Token → Turn → Type 0
+TurnFits source ms opened blank t Keep = replacement source (visible source ms opened) t ≡ None
+TurnFits source ms opened blank t Skip = NamesBlank source ms blank t
+TurnFits source ms opened blank t (Enter i) = Names source ms t i × (is_set opened i ≡ false) × (is_set blank i ≡ false)
+
+-- what is added to the tokens passes the limit, with a token that stands at this place
+abbrev pub Passes : Span → List Token → List Token → Stop → Type 0
+Passes at ts more NoMemory = Unit {0}
+Passes at ts more (At place) = (place ≡ at.start) × (length ts ≤ 2 ^ 20) × (2 ^ 20 < length (ts ++ more))
+
+-- a token was read: what it stands for was added, or is the first that is pending
+pub record Entered (source : List ℕ) (at : Span) (ms : List Macro) (opened : List Bool) (frames : List Frame) (tokens : List Token) (t : Token) (opened' blank' : List Bool) (frames' : List Frame) (tokens' : List Token) : Type 0 where
+  pub kept : IsKept source ms opened' blank'
+  pub within : AreWithin ms frames → AreWithin ms frames'
+  pub unwinds : unwound opened' frames' ≡ unwound opened frames
+  pub told : tokens' ++ pending source at ms opened' frames' ≡ tokens ++ (now_replaced source at ms opened t ++ pending source at ms opened frames)
+  pub cheaper : frames_cost source ms opened' frames' < now_cost source ms opened t + frames_cost source ms opened frames
+  pub few : length tokens' ≤ 2 ^ 20
+
+-- what a token stands for was added
+pub record Replaced (source : List ℕ) (ms : List Macro) (opened : List Bool) (tokens : List Token) (t : Token) (opened' blank' : List Bool) (tokens' : List Token) : Type 0 where
+  pub kept : IsKept source ms opened' blank'
+  pub unwinds : opened' ≡ opened
+  pub told : tokens' ≡ tokens ++ now_replaced source t.at ms opened t
+  pub few : length tokens' ≤ 2 ^ 20

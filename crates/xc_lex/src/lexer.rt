@@ -1,0 +1,97 @@
+//! The tokens of a text.
+
+ghost use Rattle.std.specs.Prelude.{◌≡◌, ◌≤◌, ◌<◌, ◌^◌, ◌+◌, List, length, IfOk, IfErr, slice_get, ◌==◌};
+ghost use Rattle.std.specs.Option.{option_copied};
+ghost use Rattle.xc_lex.specs.Source.{AreTokens, FaultFits};
+
+use crate::lines::read_line;
+use crate::macros::Macros;
+use crate::stop::Stop;
+use crate::token::Token;
+use std::alloc::Global;
+use std::marker::Model;
+use xc_span::{Pos, position};
+
+/// The tokens of a text, in order.
+#[derive(Drop)]
+pub struct Tokens {
+    items: Vec<Token>,
+}
+
+impl Model for Tokens {
+    ghost use Rattle.std.specs.Prelude.{List};
+    ghost use Rattle.xc_lex.specs.declared.token.Token.{Token};
+
+    ghost Value = { List Token };
+
+    ghost view = { λ t. t.items.items };
+}
+
+impl Tokens {
+    /// How many there are.
+    pub fn len(&self) -> usize
+        ensures { result ≡ length self.now }
+    {
+        self.items.len()
+    }
+
+    /// Whether there is none.
+    pub fn is_empty(&self) -> bool
+        ensures { result ≡ (length self.now == 0) }
+    {
+        self.items.is_empty()
+    }
+
+    /// The token of a number, counted from 0.
+    pub fn get(&self, number: usize) -> Option<Token>
+        ensures { result ≡ slice_get self.now number }
+    {
+        self.items.get(number).copied()
+    }
+
+    /// All of them.
+    pub fn as_slice(&self) -> &[Token]
+        ensures { result.now ≡ self.now }
+    {
+        self.items.as_slice()
+    }
+}
+
+impl From<Vec<Token>> for Tokens {
+    ghost from_gives = { λ v t. t ≡ v.items };
+
+    fn from(items: Vec<Token>) -> Tokens {
+        Tokens { items }
+    }
+}
+
+/// Why a text has no tokens: want of memory, or its first fault.
+#[derive(Clone, Copy, Debug, PartialEq, Eq)]
+pub enum LexFault {
+    NoMemory,
+    At(Pos),
+}
+
+/// The tokens of a text, with macros replaced. It takes time in proportion to the text, the tokens
+/// and the names of macros that are met while they are replaced.
+pub fn lex(alloc: Global, source: &[u8]) -> Result<Tokens, LexFault>
+    requires { length source.now ≤ 2 ^ 20 }
+    ensures tokens { IfOk result (λ tokens. AreTokens source.now tokens) }
+    ensures fault { IfErr result (λ e. FaultFits source.now e) }
+{
+    let mut macros = Macros::new(alloc);
+    let mut tokens = Vec::new(alloc);
+    let mut at = 0;
+    'lines: loop {
+        match read_line(alloc, source, at, &mut macros, &mut tokens) {
+            Ok(end) => {
+                if end == source.len() {
+                    return Ok(Tokens { items: tokens });
+                }
+                at = end + 1;
+            }
+            Err(Stop::NoMemory) => return Err(LexFault::NoMemory),
+            Err(Stop::At(place)) => return Err(LexFault::At(position(source, place))),
+        }
+    }
+}

@@ -1,0 +1,128 @@
+use crate::{LexFault, TokenKind, lex};
+use std::alloc::Global;
+use std::process::Abort;
+use std::test::Fail;
+
+/// The tokens of a text, each as a letter for its kind and its bytes.
+fn shown(alloc: Global, source: &[u8]) -> Result<String, Fail> {
+    let mut out = String::new(alloc);
+    if source.len() > 1 << 20 {
+        out.push_str("too long")?;
+        return Ok(out);
+    }
+    match lex(alloc, source) {
+        Ok(tokens) => {
+            for token in tokens.as_slice() {
+                let kind = match token.kind {
+                    TokenKind::Name => 'n',
+                    TokenKind::Keyword => 'k',
+                    TokenKind::Number => 'd',
+                    TokenKind::Text => 't',
+                    TokenKind::Punctuator => 'p',
+                    TokenKind::Pragma => 'g',
+                };
+                out.push(kind)?;
+                for b in token.text.of(source) {
+                    out.push(char::from(*b))?;
+                }
+                out.push_str(" ")?;
+            }
+        }
+        Err(LexFault::At(pos)) => out.push_str(format!(in alloc;
+            "{}:{}",
+            pos.line, pos.col
+        )?.as_str())?,
+        Err(LexFault::NoMemory) => out.push_str("no memory")?,
+    }
+    Ok(out)
+}
+
+/// Each text with what `shown` makes of it.
+fn check(rt: &impl Abort, alloc: Global, rows: &[(&[u8], &str)]) -> Result<(), Fail> {
+    for (source, wanted) in rows {
+        let got = shown(alloc, source)?;
+        assert_eq!(rt; got.as_str().trim_end(), *wanted, "of {source:?}");
+    }
+    Ok(())
+}
+
+#[test]
+fn tokens_of_each_class(rt: HostRuntime) -> Result<(), Fail> {
+    let rows: [(&[u8], &str); 12] = [
+        (b"", ""),
+        (b" \t\r\n\x0c/* a\n*/ // b", ""),
+        (b"int $a_1 futures future", "kint n$a_1 nfutures kfuture"),
+        (b"goto _Bool sync", "kgoto k_Bool ksync"),
+        (b"a<<=b>>=c<<d", "na p<<= nb p>>= nc p<< nd"),
+        (b"x+++++y->z...", "nx p++ p++ p+ ny p-> nz p. p. p."),
+        (b"\"a b\\n\\t\\\\\\\"\"x", "t\"a b\\n\\t\\\\\\\"\" nx"),
+        (
+            b"9223372036854775807 9223372036854775808u 18446744073709551615LLU",
+            "d9223372036854775807 d9223372036854775808u d18446744073709551615LLU",
+        ),
+        (
+            b"0xFFFFFFFFFFFFFFFF 01777777777777777777777 0",
+            "d0xFFFFFFFFFFFFFFFF d01777777777777777777777 d0",
+        ),
+        (b"1.5 1/*2*/3", "d1 p. d5 d1 d3"),
+        (
+            b"#pragma mta // why\nx\n  #  pragma\n",
+            "g#pragma mta // why nx g#  pragma",
+        ),
+        (b"/*\n*/ #include <a'b>\nx", "nx"),
+    ];
+    check(&rt, rt.alloc(), &rows)
+}
+
+#[test]
+fn faults_stand_where_they_begin(rt: HostRuntime) -> Result<(), Fail> {
+    let rows: [(&[u8], &str); 30] = [
+        (b"9223372036854775808", "1:1"),
+        (b"18446744073709551616u", "1:1"),
+        (b"a 0x10000000000000000", "1:3"),
+        (b"02000000000000000000000", "1:1"),
+        (b"0x", "1:1"),
+        (b"08", "1:1"),
+        (b"1_", "1:1"),
+        (b"1uu", "1:1"),
+        (b"1lul", "1:1"),
+        (b"1lL", "1:1"),
+        (b"\n x /* *", "2:4"),
+        (b"\"abc", "1:1"),
+        (b"x \"a\\q\"", "1:3"),
+        (b"\"a\tb\"", "1:1"),
+        (b"\"a\nb\"", "1:1"),
+        (b"a\n  b # c", "2:5"),
+        (b"#", "1:1"),
+        (b" # if x", "1:2"),
+        (b"#includefoo", "1:1"),
+        (b"#define", "1:1"),
+        (b"#define 1", "1:1"),
+        (b"#define goto x", "1:1"),
+        (b"#define A 1\n#define A 1", "2:1"),
+        (b"#define A @", "1:11"),
+        (b"#define A #", "1:11"),
+        (b"#include <a/*b>", "1:12"),
+        (b"#pragma \x80", "1:9"),
+        (b"x @", "1:3"),
+        (b"x /*\n*/ #pragma", "2:4"),
+        (b"\x0b", "1:1"),
+    ];
+    check(&rt, rt.alloc(), &rows)
+}
+
+#[test]
+fn macros_stand_for_their_tokens(rt: HostRuntime) -> Result<(), Fail> {
+    let rows: [(&[u8], &str); 9] = [
+        (b"#define N 3 /* x\n y */ + 4\nN;N", "d3 p+ d4 p; d3 p+ d4"),
+        (b"#define A B\n#define B 1\nA", "d1"),
+        (b"A\n#define A 1\nA", "nA d1"),
+        (b"#define A x A y\nA", "nx nA ny"),
+        (b"#define A B a\n#define B A b\nA B", "nA nb na nB na nb"),
+        (b"#define F(x) x\nF", "p( nx p) nx"),
+        (b"#define E\n#define D E E\nD x D", "nx"),
+        (b"#define A 1\n#pragma A\nA", "g#pragma A d1"),
+        (b"#define A 1\n#define B A\n#include A\nB", "d1"),
+    ];
+    check(&rt, rt.alloc(), &rows)
+}

@@ -1,0 +1,22 @@
+//! Tokens.
+
+use xc_span::Span;
+
+/// What a token is.
+#[derive(Clone, Copy, Debug, PartialEq, Eq)]
+pub enum TokenKind {
+    Name,
+    Keyword,
+    Number,
+    Text,
+    Punctuator,
+    Pragma,
+}
+
+/// A token. Its text is a slice of the source; it stands at `at`, where a macro's name may be in its place.
+#[derive(Clone, Copy, Debug, PartialEq, Eq)]
+pub struct Token {
+    pub kind: TokenKind,
+    pub text: Span,
+    pub at: Span,
+}

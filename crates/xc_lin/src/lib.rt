@@ -1,0 +1,25 @@
+//! Affine subscripts and what they can be, and the certificates and plans that rest on them.
+#![tactic(auto)]
+
+pub mod affine;
+pub mod certificate;
+pub mod divisor;
+pub mod plan;
+pub mod region;
+
+pub use affine::{Affine, Term, TooWide, Var};
+pub use certificate::{
+    Answers, Certs, Class, CrossCert, Letter, LoopCert, Op, PairCert, PartCert, ScalarCert, Why,
+};
+pub use divisor::gcd;
+pub use plan::{
+    Classes, Conflict, Found, Guard, LoopPlan, Operand, Plan, Reason, Recurrence, Reduction, Side,
+    Target,
+};
+pub use region::{Range, Region};
+
+/// The place of a loop in its program, in text order from 0.
+pub type LoopId = u32;
+
+#[cfg(test)]
+mod tests;

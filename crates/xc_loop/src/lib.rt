@@ -1,0 +1,20 @@
+//! What a loop does, and the loops that may be planned: constants, unchanging expressions, pure functions, normal form,
+//! Concurrent loops.
+#![tactic(auto)]
+
+mod change;
+mod concurrent;
+mod constants;
+mod effect;
+mod normal;
+mod pure;
+
+pub use change::{is_assigned, is_unchanging};
+pub use concurrent::is_concurrent;
+pub use constants::constant;
+pub use effect::{Effect, effects_of, effects_of_expr, root_of};
+pub use normal::{Header, NotNormal, Step, normal_form};
+pub use pure::pure_functions;
+
+#[cfg(test)]
+mod tests;

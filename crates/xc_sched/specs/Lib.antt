@@ -1,0 +1,7 @@
+pub mod Streams
+pub mod Bits
+pub mod Choices
+pub mod Runs
+pub mod Drafts
+pub mod Faults
+pub mod Losses

@@ -1,0 +1,156 @@
+-- When a statement is well typed (C99 6.8), when what leaves a body stands where it may, and which locals are seen where.
+use Rattle.std.specs.Prelude.{ℕ, Bool, true, false, ◌&&◌, nat_lt, nat_le, is_some, is_none, List, [], ◌∷◌, ◌++◌, length, map, Option, Some, None, slice_get}
+use Rattle.xc_tree.specs.declared.ty.Ty.{Ty}
+use Rattle.xc_tree.specs.declared.expr.Expr.{Expr}
+use Rattle.xc_tree.specs.declared.pragmas.Pragmas.{Pragmas}
+use Rattle.xc_tree.specs.declared.pragmas.Root.{Root}
+use Rattle.xc_tree.specs.declared.pragmas.Root.TheVariants as root
+use Rattle.xc_tree.specs.declared.stmt.Stmt.{Stmt}
+use Rattle.xc_tree.specs.declared.stmt.LoopForm.{LoopForm}
+use Rattle.xc_tree.specs.declared.stmt.LoopForm.TheVariants as form
+use Rattle.xc_tree.specs.declared.stmt.StmtKind.TheOpen.{StmtKind-F}
+use Rattle.xc_tree.specs.declared.stmt.StmtKind.TheFolds.{fold-Stmt}
+use Rattle.xc_tree.specs.declared.stmt.Capture.{Capture}
+use Rattle.xc_tree.specs.declared.tree.Local.{Local}
+use Rattle.xc_tree.specs.Lists.{every, has, ascending, passes, allows}
+use Rattle.xc_tree.specs.Types.{same_ty, is_void, is_plain, holds_pointer, fits, may_hold, cell_of, future_under}
+use Rattle.xc_tree.specs.Typed.{Context, expr_ok, value_ok}
+use Rattle.xc_tree.specs.Walk.{locals_named}
+
+-- types ------------------------------------------------------------------
+
+-- the value of a test is a scalar
+abbrev pub test_ok : Context → Expr → Bool
+test_ok cx e = value_ok cx e && is_plain e.ty
+
+-- an initialiser fits the cell at its offset
+abbrev pub init_ok : Context → Local → ℕ × Expr → Bool
+init_ok cx l i = value_ok cx i.1 && passes (λ t. may_hold t i.1.ty) (cell_of cx.shapes l.ty i.0)
+
+abbrev pub inits_ok : Context → Option Local → List (ℕ × Expr) → Bool
+inits_ok cx l init = passes (λ l. every (map (init_ok cx l) init)) l
+
+-- a copy is a plain scalar of its own
+abbrev pub capture_ok : Context → Capture → Bool
+capture_ok cx c = value_ok cx c.from && passes (λ l. is_plain l.ty && same_ty l.ty c.from.ty) (slice_get cx.locals c.local)
+
+abbrev pub root_ok : Context → Root → Bool
+root_ok cx (root.Global g) = nat_lt g (length cx.globals)
+root_ok cx (root.Local x) = nat_lt x (length cx.locals)
+root_ok cx (root.GlobalPointer g) = passes (λ g. holds_pointer g.ty) (slice_get cx.globals g)
+root_ok cx (root.LocalPointer x) = passes (λ l. holds_pointer l.ty) (slice_get cx.locals x)
+root_ok cx root.Other = true
+
+-- from 1 to 1,024 streams, and roots that are there
+unfoldable pub pragmas_ok : Context → Pragmas → Bool
+pragmas_ok cx p = nat_le 1 p.streams && (nat_le p.streams 1024
+    && (every (map (root_ok cx) p.nodep) && every (map (root_ok cx) p.noalias)))
+
+abbrev pub stmt_step : Context → StmtKind-F Bool Bool → Bool
+stmt_step cx StmtKind-F.Empty = true
+stmt_step cx (StmtKind-F.Declare x init) = nat_lt x (length cx.locals)
+    && (ascending (map (λ i. i.0) init) && inits_ok cx (slice_get cx.locals x) init)
+stmt_step cx (StmtKind-F.Eval e) = value_ok cx e
+stmt_step cx (StmtKind-F.Block all) = every all
+stmt_step cx (StmtKind-F.If test then other) = test_ok cx test && (then && allows (λ b. b) other)
+stmt_step cx (StmtKind-F.Loop id _ init test step body pragmas) = every init
+    && (allows (test_ok cx) test && (allows (value_ok cx) step && (body && pragmas_ok cx pragmas)))
+stmt_step cx (StmtKind-F.Return e) = allows (value_ok cx) e
+stmt_step cx StmtKind-F.Break = true
+stmt_step cx StmtKind-F.Continue = true
+stmt_step cx (StmtKind-F.Future place captures body) = expr_ok cx place
+    && (every (map (capture_ok cx) captures) && body)
+
+-- the statement is well typed
+abbrev pub stmt_ok : Context → Stmt → Bool
+stmt_ok cx = fold-Stmt Bool Bool (stmt_step cx) (λ s. s.kind)
+
+-- leaving ----------------------------------------------------------------
+
+-- what a `return` gives, and whether there is a loop to leave
+pub record Inside : Type 0 where
+  pub ret : Ty
+  pub looping : Bool
+
+-- whether a statement may stand in the first clause of a `for`, and whether it leaves only what is around it
+pub record Leaving : Type 0 where
+  pub clause : Bool
+  pub ok : Inside → Bool
+
+abbrev pub returns : Option Expr → Ty → Bool
+returns None ret = is_void ret
+returns (Some e) ret = fits ret e.ty
+
+-- `while` and `do` have a test alone; a `for` begins with declarations or an expression
+abbrev pub header_ok : LoopForm → List Leaving → Option Expr → Option Expr → Bool
+header_ok form.For init test step = every (map (λ s. s.clause) init)
+header_ok _ [] test step = is_some test && is_none step
+header_ok _ (s ∷ ss) test step = false
+
+abbrev pub leave_step : StmtKind-F Leaving Leaving → Leaving
+leave_step (StmtKind-F.Declare x init) = record { clause = true; ok = λ w. true }
+leave_step (StmtKind-F.Eval e) = record { clause = true; ok = λ w. true }
+leave_step (StmtKind-F.Block all) = record { clause = false; ok = λ w. every (map (λ s. s.ok w) all) }
+leave_step (StmtKind-F.If test then other) = record { clause = false; ok = λ w. then.ok w && allows (λ s. s.ok w) other }
+leave_step (StmtKind-F.Loop id f init test step body pragmas) = record {
+  clause = false;
+  ok = λ w. header_ok f init test step && body.ok (record { ret = w.ret; looping = true });
+}
+leave_step (StmtKind-F.Return e) = record { clause = false; ok = λ w. returns e w.ret }
+leave_step StmtKind-F.Break = record { clause = false; ok = λ w. w.looping }
+leave_step StmtKind-F.Continue = record { clause = false; ok = λ w. w.looping }
+leave_step (StmtKind-F.Future place captures body) = record {
+  clause = false;
+  ok = λ w. passes (λ t. body.ok (record { ret = t; looping = false })) (future_under place.ty);
+}
+leave_step StmtKind-F.Empty = record { clause = false; ok = λ w. true }
+
+-- `break`, `continue` and `return` leave what is there, with a value of its type
+abbrev pub leaves_ok : Stmt → Inside → Bool
+leaves_ok s = (fold-Stmt Leaving Leaving leave_step (λ s. s.kind) s).ok
+
+-- scopes -----------------------------------------------------------------
+
+-- the locals that a statement adds to what the next one sees, and whether it names only what it sees (C99 6.2.1)
+pub record Sight : Type 0 where
+  pub adds : List ℕ
+  pub ok : List ℕ → Bool
+
+abbrev pub sees : List ℕ → Expr → Bool
+sees seen e = every (map (λ x. has x seen) (locals_named e))
+
+abbrev pub sees_root : List ℕ → Root → Bool
+sees_root seen (root.Local x) = has x seen
+sees_root seen (root.LocalPointer x) = has x seen
+sees_root seen _ = true
+
+abbrev pub sees_pragmas : List ℕ → Pragmas → Bool
+sees_pragmas seen p = every (map (sees_root seen) p.nodep) && every (map (sees_root seen) p.noalias)
+
+-- each statement sees what the ones before it add
+abbrev pub sees_all : List Sight → List ℕ → Bool
+sees_all [] seen = true
+sees_all (s ∷ ss) seen = s.ok seen && sees_all ss (s.adds ++ seen)
+
+abbrev pub added : List Sight → List ℕ → List ℕ
+added [] seen = seen
+added (s ∷ ss) seen = added ss (s.adds ++ seen)
+
+abbrev pub adds_none : (List ℕ → Bool) → Sight
+adds_none ok = record { adds = []; ok = ok }
+
+abbrev pub sight_step : StmtKind-F Sight Sight → Sight
+sight_step (StmtKind-F.Declare x init) = record { adds = x ∷ []; ok = λ seen. every (map (λ i. sees (x ∷ seen) i.1) init) }
+sight_step (StmtKind-F.Eval e) = adds_none (λ seen. sees seen e)
+sight_step (StmtKind-F.Block all) = adds_none (sees_all all)
+sight_step (StmtKind-F.If test then other) = adds_none (λ seen. sees seen test && (then.ok seen && allows (λ s. s.ok seen) other))
+sight_step (StmtKind-F.Loop id _ init test step body pragmas) = adds_none (λ seen. sees_pragmas seen pragmas
+    && (sees_all init seen && (allows (sees (added init seen)) test && (allows (sees (added init seen)) step && body.ok (added init seen)))))
+sight_step (StmtKind-F.Return e) = adds_none (λ seen. allows (sees seen) e)
+sight_step (StmtKind-F.Future place captures body) = adds_none (λ seen. sees seen place
+    && (every (map (λ c. sees seen c.from) captures) && body.ok (map (λ c. c.local) captures)))
+sight_step _ = adds_none (λ seen. true)
+
+-- where these locals are seen, the statement names only locals that it sees
+abbrev pub sees_ok : Stmt → List ℕ → Bool
+sees_ok s = (fold-Stmt Sight Sight sight_step (λ s. s.kind) s).ok
