@@ -1,6 +1,6 @@
 //! Instructions of expressions and statements.
 
-ghost use Rattle.std.specs.Prelude.{◌≡◌, ◌+◌, ◌<◌, ◌++◌, [], ◌∷◌, ◌^◌, ◌-◌, OnOk, IfOk, map};
+ghost use Rattle.std.specs.Prelude.{◌≡◌, ◌+◌, ◌<◌, ◌≤◌, ◌++◌, [], ◌∷◌, ◌^◌, ◌-◌, OnOk, IfOk, map};
 ghost use Rattle.xc_meaning.specs.Programs.{expr_of, stmt_of, program_of};
 ghost use Rattle.xc_gen.specs.Emitted.{expr_code, assign_code, print_code, body_code, whole_code, operation_of, pointer_to, most_globals, waiting_in, NamesBelow, FitsExpr, FitsBody, Fits};
 ghost use Rattle.xc_gen.specs.Faithful.{Faithful, Ends, GoesOn};
@@ -116,6 +116,7 @@ pub fn code_of(alloc: Global, program: Program) -> Result<Code, AllocError>
     ensures faithful { IfOk result (λ code. Faithful (program_of program) code) }
     ensures ends { IfOk result (λ code. Ends (program_of program) code) }
     ensures goes_on { IfOk result GoesOn }
+    ensures globals { IfOk result (λ code. code.globals ≤ most_globals) }
 {
     let Program {
         globals,

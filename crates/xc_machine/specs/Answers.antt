@@ -36,7 +36,7 @@ turns n = replicate n 0
 -- The steps that went are a run; what ended it is so of the state there.
 abbrev pub EndsBy : Code → ℕ → State → State → End → Type 0
 EndsBy code limit old new (end.Ended n) = (run code (turns n) old ≡ At new) × HasQuit new
-EndsBy code limit old new (end.Stuck n) = (run code (turns n) old ≡ At new) × (step code 0 new ≡ NoRun)
+EndsBy code limit old new (end.Stuck n) = (run code (turns n) old ≡ At new) × (step code 0 new ≡ NoRun) × (HasQuit new → ⊥)
 EndsBy code limit old new (end.Unfinished n) = (run code (turns n) old ≡ At new) × (n ≡ limit)
 EndsBy code limit old new (end.Trap kind n) = run code (turns (suc n)) old ≡ TrapsBy kind
 EndsBy code limit old new end.NoMemory = Unit {0}

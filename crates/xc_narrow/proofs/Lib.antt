@@ -1,1 +1,3 @@
 pub mod TokenLaws
+pub mod SumLaws
+pub mod Fitting

@@ -77,31 +77,73 @@ sum name (suc depth) turns ts = then_parse (prod name (sum name depth turns) tur
 
 -- ---- the whole text
 
--- the declaration and what stands before the sum: 59 is ; and 40, 41, 123, 61 are ( ) { =
+abbrev pub after_word : List ℕ → List Token → Option (List Token)
+after_word w (Word v ∷ ts) = if bytes_eq v w then Some ts else None
+after_word w _ = None
+
+abbrev pub after_mark : ℕ → List Token → Option (List Token)
+after_mark m (Mark k ∷ ts) = if k == m then Some ts else None
+after_mark m _ = None
+
+abbrev pub word_at : List Token → Option (List ℕ × List Token)
+word_at (Word w ∷ ts) = Some (w, ts)
+word_at _ = None
+
+abbrev pub text_at : List Token → Option (List ℕ × List Token)
+text_at (Text t ∷ ts) = Some (t, ts)
+text_at _ = None
+
+abbrev pub number_at : List Token → Option (ℕ × List Token)
+number_at (Number n ∷ ts) = Some (n, ts)
+number_at _ = None
+
+-- "int" NAME ";": 59 is ;
+abbrev pub declared : List Token → Option (List ℕ × List Token)
+declared ts = option_and_then (λ ts. option_and_then (λ n. if is_reserved n.0 then None else option_map (λ ts. (n.0, ts)) (after_mark 59 n.1)) (word_at ts)) (after_word (codes "int") ts)
+
+-- "int" "main" "(" ")" "{": 40 is (, 41 is ), 123 is {
+abbrev pub opened : List Token → Option (List Token)
+opened ts = option_and_then (after_mark 123) (option_and_then (after_mark 41) (option_and_then (after_mark 40) (option_and_then (after_word (codes "main")) (after_word (codes "int") ts))))
+
+-- NAME "=": 61 is =
+abbrev pub assigned : List ℕ → List Token → Option (List Token)
+assigned name ts = option_and_then (after_mark 61) (after_word name ts)
+
 abbrev pub header : List Token → Option (List ℕ × List Token)
-header (Word a ∷ Word name ∷ Mark m ∷ Word b ∷ Word c ∷ Mark n ∷ Mark o ∷ Mark p ∷ Word again ∷ Mark q ∷ ts) =
-    if bytes_eq a (codes "int") && m == 59 && bytes_eq b (codes "int") && bytes_eq c (codes "main") && n == 40 && o == 41 && p == 123 && bytes_eq again name && q == 61 && not (is_reserved name)
-    then Some (name, ts) else None
-header _ = None
+header ts = option_and_then (λ d. option_map (λ ts. (d.0, ts)) (option_and_then (assigned d.0) (opened d.1))) (declared ts)
 
--- a number is returned, or none: 125 is }
-abbrev pub footer : List Token → Option (List Stmt)
-footer (Mark m ∷ []) = if m == 125 then Some [] else None
-footer (Word r ∷ Number n ∷ Mark m ∷ Mark o ∷ []) = if bytes_eq r (codes "return") && m == 59 && o == 125 then Some (Return (NumberExpr n) ∷ []) else None
-footer _ = None
+-- ";" "printf" "(" STRING
+abbrev pub format_in : List Token → Option (List ℕ × List Token)
+format_in ts = option_and_then text_at (option_and_then (after_mark 40) (option_and_then (after_word (codes "printf")) (after_mark 59 ts)))
 
--- what stands behind the sum: 44 is ,
+-- "," NAME ")" ";": 44 is ,
+abbrev pub argument : List ℕ → List Token → Option (List Token)
+argument name ts = option_and_then (after_mark 59) (option_and_then (after_mark 41) (option_and_then (after_word name) (after_mark 44 ts)))
+
+abbrev pub printed : List ℕ → List Token → Option (List ℕ × List Token)
+printed name ts = option_and_then (λ f. if prints_one f.0 then option_map (λ ts. (f.0, ts)) (argument name f.1) else None) (format_in ts)
+
+-- "return" NUMBER ";"
+abbrev pub returned : List Token → Option (ℕ × List Token)
+returned ts = option_and_then (λ n. option_map (λ ts. (n.0, ts)) (after_mark 59 n.1)) (option_and_then number_at (after_word (codes "return") ts))
+
+-- "}" and the end: 125 is }
+abbrev pub is_end : List Token → Bool
+is_end (Mark m ∷ []) = m == 125
+is_end _ = false
+
+abbrev pub end_after : Option (ℕ × List Token) → List Token → Option (List Stmt)
+end_after None ts = if is_end ts then Some [] else None
+end_after (Some r) ts = if is_end r.1 then Some (Return (NumberExpr r.0) ∷ []) else None
+
 abbrev pub middle : List ℕ → List Token → Option (List ℕ × List Stmt)
-middle name (Mark m ∷ Word p ∷ Mark n ∷ Text format ∷ Mark o ∷ Word again ∷ Mark q ∷ Mark r ∷ ts) =
-    if m == 59 && bytes_eq p (codes "printf") && n == 40 && o == 44 && bytes_eq again name && q == 41 && r == 59 && prints_one format
-    then option_map (λ last. (format, last)) (footer ts) else None
-middle name _ = None
+middle name ts = option_and_then (λ f. option_map (λ last. (f.0, last)) (end_after (returned f.1) f.1)) (printed name ts)
 
 abbrev pub program : Expr → List ℕ → List Stmt → Program
 program e format last = record { globals = 1; formats = format ∷ []; body = Assign 0 e ∷ Print 0 (Global 0) ∷ last }
 
 -- no node is deeper than 128: the block of main has depth 1, so that the nodes of the sum begin at 4
-abbrev pub height_limit : ℕ
+unfoldable pub height_limit : ℕ
 height_limit = 125
 
 abbrev pub ends_with : List ℕ → Option Parsed → Option Program
@@ -109,7 +151,7 @@ ends_with name None = None
 ends_with name (Some p) = if nat_le p.height height_limit then option_map (λ m. program p.expr m.0 m.1) (middle name p.rest) else None
 
 abbrev pub program_in : List Token → Option Program
-program_in ts = option_and_then (λ h. ends_with h.0 (sum h.0 height_limit (suc (length ts)) h.1)) (header ts)
+program_in ts = option_and_then (λ h. ends_with h.0 (sum h.0 height_limit (length ts + 1) h.1)) (header ts)
 
 -- The program of a narrow text, which has at most 1,024 bytes; none: the text is not narrow.
 abbrev pub narrow : List ℕ → Option Program

@@ -1,6 +1,6 @@
 //! Tokens.
 
-ghost use Rattle.std.specs.Prelude.{◌≡◌, ◌≤◌, ◌<◌, ◌+◌, ◌++◌, ◌^◌, false, length, [], suc, IfOk, OnOk};
+ghost use Rattle.std.specs.Prelude.{◌≡◌, ◌≤◌, ◌<◌, ◌+◌, ◌++◌, ◌^◌, false, length, [], suc, IfOk, IfSome};
 ghost use Rattle.std.specs.Option.{option_map};
 ghost use Rattle.xc_narrow.specs.Tokens.{is_blank as is_blank_of, is_digit as is_digit_of, is_letter as is_letter_of, goes_on as goes_on_of, is_mark as is_mark_of, is_printable as is_printable_of, run_length_of, value_from, number_of, escaped as escaped_of, string_from, string_front, word_front, front_of, FrontWithin, tokens_of};
 
@@ -190,7 +190,8 @@ fn word(alloc: Global, text: &[u8], first: u8) -> Result<Front, AllocError>
 
 /// The tokens of a text. None: it has no tokens of a narrow text.
 pub(crate) fn tokens(alloc: Global, text: &[u8]) -> Result<Option<Items<Token>>, AllocError>
-    ensures { IfOk result (λ tokens. tokens ≡ tokens_of text.now) }
+    ensures value { IfOk result (λ tokens. tokens ≡ tokens_of text.now) }
+    ensures few { IfOk result (λ tokens. IfSome tokens (λ ts. length ts ≤ length text.now + 1)) }
 {
     let mut tokens = Items::new(alloc);
     let mut rest = text;

@@ -8,3 +8,4 @@ mod words;
 
 
 
+pub use grammar::parse;

@@ -1,6 +1,8 @@
 //! Names that are taken, and formats.
 
 ghost use Rattle.std.specs.Prelude.{◌≡◌};
+ghost use Rattle.std.specs.List.{list_any};
+ghost use Rattle.std.specs.Str.{bytes_eq};
 ghost use Rattle.xc_narrow.specs.Words.{is_reserved as is_reserved_word, is_plain_from, prints_one as prints_one_value};
 ghost use Rattle.xc_narrow.specs.declared.words.Conversion.TheVariants.{Outside as OutsideOf};
 
@@ -65,15 +67,16 @@ enum Conversion {
     Long,
 }
 
+fn is_among(words: &[&[u8]], word: &[u8]) -> bool
+    ensures { result ≡ list_any (λ r. bytes_eq r.now word.now) words.now }
+{
+    words.iter().any(|r| *r == word)
+}
+
 pub(crate) fn is_reserved(word: &[u8]) -> bool
     ensures { result ≡ is_reserved_word word.now }
 {
-    for r in RESERVED {
-        if r == word {
-            return true;
-        }
-    }
-    false
+    is_among(&RESERVED, word)
 }
 
 /// Whether a format has no conversions but `%d`, `%ld` and `%%`.

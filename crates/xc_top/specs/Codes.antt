@@ -1,0 +1,13 @@
+-- The codes that the program ends with.
+use Rattle.std.specs.Prelude.{ℕ}
+use Rattle.xc_top.specs.declared.status.Status.{Status}
+use Rattle.xc_top.specs.declared.status.Status.TheVariants.{Ok, ReadFault, WriteFault, Usage, Long, Refused, NoMemory}
+
+abbrev pub code_of : Status → ℕ
+code_of (Ok n) = 0
+code_of (ReadFault name) = 1
+code_of WriteFault = 1
+code_of Usage = 2
+code_of (Long name) = 3
+code_of (Refused name kind at) = 3
+code_of NoMemory = 10
