@@ -4,3 +4,6 @@
 mod emit;
 
 pub use emit::code_of;
+
+#[cfg(test)]
+mod tests;

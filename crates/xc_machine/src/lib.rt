@@ -7,3 +7,6 @@ mod stream;
 
 pub use machine::{Machine, Stepped};
 pub use run::End;
+
+#[cfg(test)]
+mod tests;

@@ -9,12 +9,11 @@ ghost use Rattle.xc_narrow.specs.Views.{parsed_of, Sound, Takes, LastFits, IsSma
 ghost use Rattle.xc_narrow.specs.Words.{prints_one as prints_one_value};
 ghost use Rattle.xc_narrow.specs.Grammar.{joined as joined_of, closed as closed_of, prim, product_op as product_op_of, sum_op as sum_op_of, op_at, behind_one as behind_one_of, more_of, prod, sum, after_word as after_word_of, after_mark as after_mark_of, word_at as word_at_of, text_at as text_at_of, number_at as number_at_of, declared as declared_of, opened as opened_of, assigned as assigned_of, header as header_of, format_in as format_in_of, argument as argument_of, printed as printed_of, returned as returned_of, is_end as is_end_of, end_after, height_limit as height_limit_of, ends_with, program as program_with, program_in, narrow};
 
+use crate::lex::{Token, tokens};
+use crate::words::{is_reserved, prints_one};
 use sqlite_items::Items;
 use std::alloc::{AllocError, Global};
 use xc_meaning::{BinaryOp, Expr, Program, Stmt};
-
-use crate::lex::{Token, tokens};
-use crate::words::{is_reserved, prints_one};
 
 /// An expression, how deep its nodes nest, parentheses included, and the tokens behind it.
 #[derive(Drop)]
@@ -285,13 +284,7 @@ fn after_mark(tokens: &[Token], mark: u8) -> Option<&[Token]>
     ensures shorter { IfSome result (λ r. length r.now ≤ length tokens.now) }
 {
     match tokens {
-        [Token::Mark(m), rest @ ..] => {
-            if *m == mark {
-                Some(rest)
-            } else {
-                None
-            }
-        }
+        [Token::Mark(m), rest @ ..] => { if *m == mark { Some(rest) } else { None } }
         _ => None,
     }
 }
@@ -489,11 +482,7 @@ fn parse_tokens(alloc: Global, tokens: &[Token]) -> Result<Option<Program>, Allo
 }
 
 /// What stands behind the sum.
-fn parse_rest(
-    alloc: Global,
-    name: &[u8],
-    value: Parsed<'_>,
-) -> Result<Option<Program>, AllocError>
+fn parse_rest(alloc: Global, name: &[u8], value: Parsed<'_>) -> Result<Option<Program>, AllocError>
     requires sound { Sound value }
     requires size { size_of (expr_of value.expr) ≤ 1100 }
     ensures value { IfOk result (λ o. option_map program_of o ≡ ends_with name.now (Some (parsed_of value.entry))) }
@@ -532,12 +521,7 @@ fn program(
     build(alloc, expr, format, last)
 }
 
-fn build(
-    alloc: Global,
-    expr: Expr,
-    format: &[u8],
-    last: Items<Stmt>,
-) -> Result<Program, AllocError>
+fn build(alloc: Global, expr: Expr, format: &[u8], last: Items<Stmt>) -> Result<Program, AllocError>
     ensures { IfOk result (λ p. program_of p ≡ program_with (expr_of expr) format.now (map stmt_of last)) }
 {
     let mut formats = Items::new(alloc);

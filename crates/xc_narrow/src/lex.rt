@@ -174,10 +174,7 @@ fn word(alloc: Global, text: &[u8], first: u8) -> Result<Front, AllocError>
     let length = run_length(text);
     let run = &text[..length];
     if is_letter(first) {
-        return Ok(Front::Whole(
-            Token::Word(Items::from_slice(alloc, run)?),
-            length,
-        ));
+        return Ok(Front::Whole(Token::Word(Items::from_slice(alloc, run)?), length));
     }
     if !is_digit(first) {
         return Ok(Front::Bad);

@@ -6,6 +6,7 @@ mod grammar;
 mod lex;
 mod words;
 
-
-
 pub use grammar::parse;
+
+#[cfg(test)]
+mod tests;

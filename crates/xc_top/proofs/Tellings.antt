@@ -37,33 +37,31 @@ refused_plan file shelf name text WriteFault is short told none h = absurd h
 refused_plan file shelf name text Usage is short told none h = absurd h
 refused_plan file shelf name text (Long n) is short told none h = absurd h
 refused_plan file shelf name text NoMemory is short told none h = absurd h
-refused_plan file shelf name text (Refused n kind at) is short told none h =
-    (
-      (
-        is ∙ ap Some (sym h.0),
-        h.1,
-        h.2,
-        subst (λ m. Told shelf.files m (λ t. (length t ≤ source_limit) × (narrow t ≡ None))) (sym h.0)
-          (told_map shelf.files name (λ t e. (subst (λ u. length u ≤ source_limit) (sym e) short, ap narrow e ∙ none)) told),
-      ),
-      tt,
-    )
+refused_plan file shelf name text (Refused n kind at) is short told none h = (
+  (
+    is ∙ ap Some (sym h.0),
+    h.1,
+    h.2,
+    subst (λ m. Told shelf.files m (λ t. (length t ≤ source_limit) × (narrow t ≡ None))) (sym h.0)
+        (told_map shelf.files name (λ t e. (subst (λ u. length u ≤ source_limit) (sym e) short, ap narrow e ∙ none)) told),
+  ),
+  tt,
+)
 
 pub answered : (file : Option (List ℕ)) (shelf : ShelfSeen) (name text : List ℕ) (p : Plan) → file ≡ Some name → length text ≤ source_limit → Told shelf.files name (λ t. t ≡ text) → Answers name text p → IsPlan file shelf p
-answered file shelf name text (plan.Ended numbers out line) is short told h =
-    (
-      (
-        name,
-        is,
-        record {
-          program = h.0;
-          text = told_map shelf.files name (λ t e. (subst (λ u. length u ≤ source_limit) (sym e) short, ap narrow e ∙ h.1)) told;
-          ran = h.2;
-          streams = h.3;
-        },
-      ),
-      h.4,
-    )
+answered file shelf name text (plan.Ended numbers out line) is short told h = (
+  (
+    name,
+    is,
+    record {
+      program = h.0;
+      text = told_map shelf.files name (λ t e. (subst (λ u. length u ≤ source_limit) (sym e) short, ap narrow e ∙ h.1)) told;
+      ran = h.2;
+      streams = h.3;
+    },
+  ),
+  h.4,
+)
 answered file shelf name text (plan.Said status line) is short told h =
     let cause = refused_plan file shelf name text status is short told h.1 h.0 in
     (cause.0, cause.1, h.2)

@@ -7,15 +7,14 @@ ghost use Rattle.xc_top.specs.Command.{file_of};
 ghost use Rattle.xc_top.specs.Plans.{IsPlan, Answers, EndsWith, Refuses, Says};
 ghost use Rattle.xc_narrow.specs.Grammar.{narrow};
 
+use crate::lines::line;
+use crate::status::{FileKind, Name, Numbers, Status};
+use crate::words;
 use std::alloc::{AllocError, Global};
 use xc_edge::{Fetch, Shelf};
 use xc_gen::code_of;
 use xc_machine::{End, Machine};
 use xc_span::Pos;
-
-use crate::lines::line;
-use crate::status::{FileKind, Name, Numbers, Status};
-use crate::words;
 
 /// The host's memory is used up.
 pub(crate) struct NoMemory;
@@ -43,7 +42,10 @@ pub(crate) enum Plan {
         line: String,
     },
     /// A line on err alone.
-    Said { status: Status, line: String },
+    Said {
+        status: Status,
+        line: String,
+    },
 }
 
 /// No source is longer.

@@ -9,3 +9,6 @@ mod words;
 
 pub use status::{FileKind, Name, Numbers, Status};
 pub use top::xmtc;
+
+#[cfg(test)]
+mod tests;

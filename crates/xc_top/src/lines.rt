@@ -3,10 +3,9 @@
 ghost use Rattle.std.specs.Prelude.{◌≡◌, ◌++◌, string_bytes, IfOk, codes, decimal};
 ghost use Rattle.xc_top.specs.Lines.{kind_text as kind_text_of, line_of};
 
+use crate::status::{FileKind, Status};
 use itoa::Buffer;
 use std::alloc::{AllocError, Global};
-
-use crate::status::{FileKind, Status};
 
 /// The line that takes no memory.
 pub(crate) const NO_MEMORY: &str = "xmtc: no memory\n";

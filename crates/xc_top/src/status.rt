@@ -64,11 +64,7 @@ pub enum Status {
     /// The file is longer than its limit.
     Long(Name),
     /// The file is not what the command takes.
-    Refused {
-        name: Name,
-        kind: FileKind,
-        at: Pos,
-    },
+    Refused { name: Name, kind: FileKind, at: Pos },
     /// The host's memory is used up.
     NoMemory,
 }

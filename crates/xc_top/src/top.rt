@@ -5,12 +5,11 @@ ghost use Rattle.xc_top.specs.Command.{file_of};
 ghost use Rattle.xc_top.specs.Lines.{line_of};
 ghost use Rattle.xc_top.specs.Answers.{Tells, Puts, Finished};
 
-use std::alloc::Global;
-use xc_edge::{Shelf, Sink, put_all};
-
 use crate::answer::{NoMemory, Plan, planned};
 use crate::lines::NO_MEMORY;
 use crate::status::{Numbers, Status};
+use std::alloc::Global;
+use xc_edge::{Shelf, Sink, put_all};
 
 /// Does what the words say, over a shelf of files and two sinks. Words are those after the program's name. A file is read up to
 /// 1 MiB; all memory is taken before the first put.
@@ -25,11 +24,13 @@ pub fn xmtc<F: Shelf, O: Sink, E: Sink>(
     ensures usage { file_of (map string_bytes words.now) ≡ None → shelf.new ≡ shelf.old }
 {
     match planned(alloc, words, shelf) {
-        Ok(Plan::Ended {
-            numbers,
-            out: text,
-            line,
-        }) => finish(numbers, text.as_slice(), line.as_str(), out, err),
+        Ok(
+            Plan::Ended {
+                numbers,
+                out: text,
+                line,
+            },
+        ) => finish(numbers, text.as_slice(), line.as_str(), out, err),
         Ok(Plan::Said { status, line }) => {
             say(err, line.as_str());
             status

@@ -23,5 +23,5 @@ returns-in_ok-name-in-Err-Long-clause-plan g c =
     let file : file_of (map string_bytes c.args.words.now) ≡ Some name = sym c.in-Some.ensures in
     let long = c.in-Err-Long.is ∙ ap Err c.in-Err-Long.field-0-is in
     ok_map c.said-in-Err-Long.result
-      (λ p h. long_said (file_of (map string_bytes c.args.words.now)) shelf name c.in_ok-name-in-Err-Long.name p file c.in_ok-name-in-Err-Long.ensures (c.fetch.ensures.long long) (told_long shelf.files name (λ t. source_limit < length t) (c.fetch.ensures.long_file long)) h)
-      c.said-in-Err-Long.ensures
+    (λ p h. long_said (file_of (map string_bytes c.args.words.now)) shelf name c.in_ok-name-in-Err-Long.name p file c.in_ok-name-in-Err-Long.ensures (c.fetch.ensures.long long) (told_long shelf.files name (λ t. source_limit < length t) (c.fetch.ensures.long_file long)) h)
+    c.said-in-Err-Long.ensures

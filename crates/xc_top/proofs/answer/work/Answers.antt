@@ -13,12 +13,11 @@ returns-in-Ended c =
     let p = program_of c.in-Some.program in
     let code = c.in_ok-code.code in
     let end = state_of c.run.new.self in
-    let runs = subst (λ st. run code (turns c.in-Ended.steps) st ≡ At end) c.in-Some-new.ensures c.in-Ended.ensures.0 in
-    (
+    let runs = subst (λ st. run code (turns c.in-Ended.steps) st ≡ At end) c.in-Some-new.ensures c.in-Ended.ensures.0 in (
       p,
       sym c.in_ok-program.ensures.value ∙ ap (option_map program_of) c.in-Some.is,
       subst (Ran p c.in-Ended.steps) (sym (c.in_ok-out-in-Ended.ensures.items ∙ c.output.ensures))
-        (has_ran p code c.in-Ended.steps c.in_ok-code.ensures.faithful c.in_ok-code.ensures.ends end runs c.in-Ended.ensures.1),
+          (has_ran p code c.in-Ended.steps c.in_ok-code.ensures.faithful c.in_ok-code.ensures.ends end runs c.in-Ended.ensures.1),
     )
 
 pub unreachable-requires : goal.unreachable-requires
