@@ -1,4 +1,4 @@
-use Rattle.std.proofs.Common.{◌≡◌, ◌∙◌, ◌<◌, ◌+◌, ℕ, zero, suc, length, take, get_or, Option, Some, None, IsSomeAnd, ℤ, pos, ◌+ℤ◌, ◌-ℤ◌, ◌*ℤ◌, ◌≤ℤ◌, Bool, true, false, not, ◌||◌, cond, List, [], ◌∷◌, ◌++◌, map, arith, sym, ap, refl, subst}
+use Rattle.std.proofs.Common.{◌≡◌, ◌∙◌, ◌<◌, ◌+◌, ℕ, zero, suc, length, take, get_or, Option, Some, None, IsSomeAnd, ℤ, pos, ◌+ℤ◌, ◌-ℤ◌, ◌≤ℤ◌, Bool, true, false, not, ◌||◌, cond, List, [], ◌∷◌, ◌++◌, map, arith, sym, ap, refl, subst}
 use Rattle.std.proofs.lemmas.Int.{ints}
 use Rattle.xc_lin.specs.declared.affine.Var.{Var}
 use Rattle.xc_lin.specs.declared.affine.Var.TheVariants.{Index}
@@ -7,7 +7,7 @@ use Rattle.std.proofs.lemmas.List.{take_more}
 use Rattle.xc_lin.specs.declared.region.Range.{Range}
 use Rattle.xc_lin.specs.declared.region.Region.{Region}
 use Rattle.xc_lin.specs.Affine.{Form, sum_of, value_of, same_var, has_var, coefficient_of, IsSingle, raised_by, without, merged, met}
-use Rattle.xc_lin.specs.Region.{TakesAt, HasValuesAt, Spans, range_of, tie_of, IsMet, IsPoint, Bounds}
+use Rattle.xc_lin.specs.Region.{TakesAt, HasValuesAt, Spans, range_of, tie_of, IsMet, IsPoint, HasPoints, Bounds}
 use Rattle.xc_lin.proofs.Merged.{same_var-refl, same_var-true, has_var-append, has_var-raised, has_var-filter, has_var-without, single-filter, single-merged, matched, matched-without}
 use Rattle.xc_lin.proofs.Totals.{AllTake, Summed, gap_of, summed-push}
 
@@ -177,3 +177,23 @@ summed-more over a b k terms i d least most low high h single values spans summe
 pub values-met : (a b : Form) (over : Region) (items : List Term) (i : ℕ) (d : Term) → items ≡ met a.terms b.terms (Index over.own) → i < length items → ((var : Var) → IsMet a b over var → HasValuesAt over var) → HasValuesAt over (get_or items i d).var
 values-met a b over items i d e h values =
     values (get_or items i d).var (met-only a.terms b.terms (Index over.own) (get_or items i d).var (subst (λ terms. has_var terms (get_or items i d).var ≡ true) e (has_var-get items i d h)))
+
+-- the variables of some terms have values
+abbrev pub AllHave : Region → List Term → Type 0
+AllHave over [] = Unit {0}
+AllHave over (t ∷ terms) = HasValuesAt over t.var × AllHave over terms
+
+pub have-push : (over : Region) (terms : List Term) (t : Term) → AllHave over terms → HasValuesAt over t.var → AllHave over (terms ++ t ∷ [])
+have-push over [] t all last = (last, tt)
+have-push over (u ∷ terms) t all last = (all.0, have-push over terms t all.1 last)
+
+have-at : (over : Region) (terms : List Term) (v : Var) → has_var terms v ≡ true → AllHave over terms → HasValuesAt over v
+have-at over [] v stands all = absurd (never stands)
+have-at over (t ∷ terms) v stands all = elim (same_var t.var v) as (λ s. same_var t.var v ≡ s → (s || has_var terms v) ≡ true → HasValuesAt over v) [
+    true ↦ λ same h. subst (HasValuesAt over) (same_var-true t.var v same) all.0
+  | false ↦ λ other h. have-at over terms v h all.1
+  ] refl stands
+
+-- where each variable that is met has values, the region has a point
+pub points-met : (a b : Form) (over : Region) (items : List Term) → items ≡ met a.terms b.terms (Index over.own) → AllHave over items → HasPoints a b over
+points-met a b over items e all = λ var is_met. have-at over items var (subst (λ terms. has_var terms var ≡ true) (sym e) (met-all a.terms b.terms (Index over.own) var is_met)) all

@@ -1,6 +1,6 @@
-use Rattle.std.proofs.Common.{◌≡◌, ◌∙◌, ◌*◌, ◌+◌, ◌≤◌, ℤ, pos, negsuc, neg_ℤ, ◌+ℤ◌, ◌-ℤ◌, ◌*ℤ◌, ◌≤ℤ◌, ◌<ℤ◌, arith, sym, ap, refl, subst}
+use Rattle.std.proofs.Common.{◌≡◌, ◌∙◌, ℤ, pos, negsuc, neg_ℤ, ◌+ℤ◌, ◌-ℤ◌, ◌*ℤ◌, ◌≤ℤ◌, arith, sym, ap}
 use Rattle.std.proofs.lemmas.Int.{ints}
-use Rattle.xc_lin.proofs.Outcomes.{times-sum, times-plus, neg-times}
+use Rattle.xc_lin.proofs.Outcomes.{times-sum, neg-times}
 
 nonneg : (c d : ℤ) → pos 0 ≤ℤ c → pos 0 ≤ℤ d → pos 0 ≤ℤ (c *ℤ d)
 nonneg (pos m) (pos n) hc hd = omega (arith, ints)

@@ -1,4 +1,4 @@
-use Rattle.std.proofs.Common.{◌≡◌, ◌≤◌, unsigned_abs, ◌∙◌, ◌⊎◌, inl, inr, ℕ, ℤ, pos, negsuc, neg_ℤ, ◌+ℤ◌, ◌-ℤ◌, ◌*ℤ◌, ◌≤ℤ◌, ◌<ℤ◌, arith, sym, ap, refl, subst}
+use Rattle.std.proofs.Common.{◌≡◌, ◌≤◌, unsigned_abs, ◌∙◌, ◌⊎◌, inl, inr, ℕ, ℤ, pos, negsuc, neg_ℤ, ◌+ℤ◌, ◌-ℤ◌, ◌*ℤ◌, ◌≤ℤ◌, arith, sym, ap, refl, subst}
 use Rattle.std.proofs.lemmas.Int.{ints}
 use Rattle.std.proofs.Math.IntN.{*ℤ-one, one}
 use Rattle.std.specs.Int.{int_min, int_max}
@@ -7,9 +7,8 @@ use Rattle.xc_lin.proofs.Outcomes.{times-sum, times-plus, neg-times}
 use Rattle.xc_lin.proofs.Products.{keeps-order, turns-order}
 use Rattle.xc_lin.specs.declared.region.Range.{Range}
 use Rattle.xc_lin.specs.declared.bounds.Line.{Line}
-use Rattle.xc_lin.specs.declared.region.Tie.{Tie}
 use Rattle.xc_lin.specs.declared.region.Tie.TheVariants.{Apart, Shared, Below, Above}
-use Rattle.xc_lin.specs.Region.{IsWithin, IsTied, Takes, Spans, apart, HasValues, height, Reaches}
+use Rattle.xc_lin.specs.Region.{Takes, Spans, apart, height, Reaches}
 
 -- a linear function is least and greatest at the ends of its range
 pub reaches-up : (line : Line) → line.range.lo ≤ℤ line.range.hi → pos 0 ≤ℤ line.coeff → Reaches line (height line line.range.lo) (height line line.range.hi)

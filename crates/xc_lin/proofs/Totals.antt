@@ -1,14 +1,12 @@
-use Rattle.std.proofs.Common.{◌≡◌, ◌∙◌, ℕ, ℤ, pos, neg_ℤ, ◌+ℤ◌, ◌-ℤ◌, ◌*ℤ◌, ◌≤ℤ◌, Bool, true, false, not, ◌||◌, cond, List, [], ◌∷◌, ◌++◌, Option, Some, None, IsSomeAnd, map, arith, sym, ap, refl, subst}
+use Rattle.std.proofs.Common.{◌≡◌, ℤ, pos, ◌+ℤ◌, ◌-ℤ◌, ◌*ℤ◌, ◌≤ℤ◌, true, false, ◌||◌, cond, List, [], ◌∷◌, ◌++◌, Some, IsSomeAnd, arith, refl, subst}
 use Rattle.std.proofs.lemmas.Int.{ints}
-use Rattle.std.specs.List.{filter}
 use Rattle.xc_lin.specs.declared.affine.Var.{Var}
-use Rattle.xc_lin.specs.declared.affine.Var.TheVariants.{Index}
 use Rattle.xc_lin.specs.declared.affine.Term.{Term}
 use Rattle.xc_lin.specs.declared.region.Range.{Range}
 use Rattle.xc_lin.specs.declared.region.Region.{Region}
-use Rattle.xc_lin.specs.Affine.{Form, sum_of, value_of, same_var, has_var, coefficient_of, IsSingle, raised_by, without, merged, met}
-use Rattle.xc_lin.specs.Region.{range_of, tie_of, Takes, TakesAt, Spans, apart, IsMet, IsPoint, Bounds}
-use Rattle.xc_lin.proofs.Merged.{same_var-refl, same_var-true, differs, has_var-append, has_var-raised, has_var-filter, has_var-without, single-filter, single-merged, matched, matched-without}
+use Rattle.xc_lin.specs.Affine.{same_var, has_var, coefficient_of}
+use Rattle.xc_lin.specs.Region.{range_of, tie_of, Takes, TakesAt, Spans, apart}
+use Rattle.xc_lin.proofs.Merged.{same_var-refl, differs, matched}
 
 -- the variables of some terms have values that the region allows
 abbrev pub AllTake : Region → List Term → (Var → ℤ) → (Var → ℤ) → Type 0

@@ -1,7 +1,6 @@
-use Rattle.std.specs.Prelude.{◌≡◌, ◌≤◌, ◌^◌, ℕ, pos, unsigned_abs, ℤ, ◌+ℤ◌, ◌-ℤ◌, ◌*ℤ◌, ◌≤ℤ◌, ◌<ℤ◌, ◌==◌, ◌||◌, true, List, [], ◌∷◌, Option, Some, None, if◌then◌else◌, IsSomeAnd, All, ⊤}
+use Rattle.std.specs.Prelude.{◌≡◌, ◌≤◌, ◌^◌, ℕ, pos, unsigned_abs, ℤ, ◌+ℤ◌, ◌-ℤ◌, ◌*ℤ◌, ◌≤ℤ◌, ◌<ℤ◌, ◌==◌, ◌||◌, true, List, [], ◌∷◌, Option, Some, None, if◌then◌else◌, IsSomeAnd, ⊤}
 use Rattle.xc_lin.specs.declared.affine.Var.{Var}
 use Rattle.xc_lin.specs.declared.affine.Var.TheVariants.{Index, Symbol, GlobalSymbol}
-use Rattle.xc_lin.specs.declared.affine.Term.{Term}
 use Rattle.xc_lin.specs.declared.region.Range.{Range}
 use Rattle.xc_lin.specs.declared.bounds.Line.{Line}
 use Rattle.xc_lin.specs.declared.bounds.Slopes.{Slopes}
@@ -81,6 +80,10 @@ TakesAt over var x y = IsSomeAnd (range_of over.ranges var) (λ range. Takes (ti
 -- bound to the other as the region says
 abbrev pub IsPoint : Form → Form → Region → (Var → ℤ) → (Var → ℤ) → Type 0
 IsPoint a b over p q = (var : Var) → IsMet a b over var → TakesAt over var (p var) (q var)
+
+-- the region has a point: each variable that is met has values
+abbrev pub HasPoints : Form → Form → Region → Type 0
+HasPoints a b over = (var : Var) → IsMet a b over var → HasValuesAt over var
 
 -- the least and the greatest difference of two forms over all points
 pub record Bounds (a b : Form) (over : Region) (least most : ℤ) : Type 0 where

@@ -1,8 +1,8 @@
 //! The least and the greatest difference of two affine forms.
-ghost use Rattle.std.specs.Prelude.{◌≡◌, ◌≤◌, ◌+◌, ◌*◌, ◌^◌, ◌+ℤ◌, ◌-ℤ◌, ◌*ℤ◌, ◌≤ℤ◌, ◌<ℤ◌, ℤ, pos, neg_ℤ, unsigned_abs, Some};
+ghost use Rattle.std.specs.Prelude.{◌≡◌, ◌≤◌, ◌+◌, ◌*◌, ◌^◌, ◌+ℤ◌, ◌-ℤ◌, ◌*ℤ◌, ◌≤ℤ◌, ◌<ℤ◌, ℤ, pos, neg_ℤ, unsigned_abs, Some, IsTrue, ◌↔◌};
 ghost use Rattle.std.specs.Int.{int_min, int_max};
 ghost use Rattle.xc_lin.specs.Affine.{coefficient_of};
-ghost use Rattle.xc_lin.specs.Region.{range_of, tie_of, shorter, height, Reaches, AreSmall, IsSmall, AreWithin, HasValues, HasValuesAt, Spans, IsMet, Bounds};
+ghost use Rattle.xc_lin.specs.Region.{range_of, tie_of, shorter, height, Reaches, AreSmall, IsSmall, AreWithin, HasValues, HasValuesAt, Spans, HasPoints, Bounds};
 ghost use Rattle.xc_lin.specs.declared.region.Tie.TheVariants.{Below};
 
 use crate::affine::{Affine, Var};
@@ -251,10 +251,24 @@ fn constant(a: &Affine, b: &Affine) -> Extent
     }
 }
 
+/// Whether the region has a point for two forms: the range of no variable of theirs is empty, and the
+/// own index has a pair in the named direction. It takes no memory.
+pub fn has_points(a: &Affine, b: &Affine, over: &Region) -> bool
+    ensures { IsTrue result ↔ HasPoints a.now b.now over.now }
+{
+    let terms = a.met(b, Var::Index(over.own));
+    for term in terms.as_slice() {
+        if !over.has_values(term.var) {
+            return false;
+        }
+    }
+    true
+}
+
 /// The least and the greatest difference `a` - `b` over the region: the own index takes pairs in the
 /// named direction, other indices are apart, and symbols are shared. It takes no memory.
 pub fn extremes(a: &Affine, b: &Affine, over: &Region) -> (i128, i128)
-    requires { (var : Var) → IsMet a.now b.now over.now var → HasValuesAt over.now var }
+    requires { HasPoints a.now b.now over.now }
     ensures { Bounds a.now b.now over.now result.0 result.1 }
 {
     let mut extent = constant(a, b);

@@ -9,7 +9,7 @@ pub mod plan;
 pub mod region;
 
 pub use affine::{Affine, Term, TooWide, Var};
-pub use bounds::extremes;
+pub use bounds::{extremes, has_points};
 pub use certificate::{
     Answers, Certs, Class, CrossCert, Letter, LoopCert, Op, PairCert, PartCert, ScalarCert, Why,
 };

@@ -1,5 +1,5 @@
 //! Where the variables of two references range.
-ghost use Rattle.std.specs.Prelude.{◌≡◌, ◌<ℤ◌};
+ghost use Rattle.std.specs.Prelude.{◌≡◌, ◌<ℤ◌, ◌↔◌, IsTrue};
 
 use crate::LoopId;
 use crate::affine::Var;
@@ -50,7 +50,7 @@ pub enum Tie {
 }
 
 impl Region {
-    ghost use Rattle.xc_lin.specs.Region.{range_of, tie_of};
+    ghost use Rattle.xc_lin.specs.Region.{range_of, tie_of, HasValuesAt};
 
     /// The range of a variable.
     pub fn range(&self, var: Var) -> Option<Range>
@@ -73,6 +73,17 @@ impl Region {
             Var::Index(_) if self.low => Tie::Below,
             Var::Index(_) => Tie::Above,
             Var::Symbol(_) | Var::GlobalSymbol(_) => Tie::Shared,
+        }
+    }
+
+    /// Whether a variable has values that are bound so.
+    pub fn has_values(&self, var: Var) -> bool
+        ensures { IsTrue result ↔ HasValuesAt self.now var }
+    {
+        match (self.range(var), self.tie(var)) {
+            (Some(range), Tie::Apart | Tie::Shared) => range.lo <= range.hi,
+            (Some(range), Tie::Below | Tie::Above) => range.lo < range.hi,
+            (None, _) => false,
         }
     }
 }
