@@ -39,16 +39,16 @@ or-second false t u e = rw e refl
 
 kept-later : (known : List Term) (x : Term) (xs : List Term) (v : Var) → same_var x.var v ≡ false → (has_var known v || has_var (without known xs) v) ≡ true → (has_var known v || has_var (without known (x ∷ xs)) v) ≡ true
 kept-later known x xs v other h = elim (has_var known x.var) as (λ s. (has_var known v || has_var (cond (not s) (x ∷ without known xs) (without known xs)) v) ≡ true) [
-    true ↦ h
+  | true ↦ h
   | false ↦ rw other h
-  ]
+]
 
 kept-here : (known : List Term) (x : Term) (xs : List Term) (v : Var) → x.var ≡ v → (has_var known v || has_var (without known (x ∷ xs)) v) ≡ true
 kept-here known x xs v e = subst (λ w. (has_var known w || has_var (without known (x ∷ xs)) w) ≡ true) e
     (elim (has_var known x.var) as (λ s. (s || has_var (cond (not s) (x ∷ without known xs) (without known xs)) x.var) ≡ true) [
-        true ↦ refl
+      | true ↦ refl
       | false ↦ rw (same_var-refl x.var) refl
-      ])
+    ])
 
 or-last : (s t : Bool) → t ≡ true → (s || t) ≡ true
 or-last true t e = refl
@@ -56,9 +56,9 @@ or-last false t e = e
 
 not-same : (xs : List Term) (v w : Var) → has_var xs v ≡ false → has_var xs w ≡ true → same_var v w ≡ false
 not-same xs v w absent stands = elim (same_var v w) as (λ s. same_var v w ≡ s → s ≡ false) [
-    true ↦ λ same. let clash : has_var xs w ≡ false = subst (λ u. has_var xs u ≡ false) (same_var-true v w same) absent in cc
+  | true ↦ λ same. let clash : has_var xs w ≡ false = subst (λ u. has_var xs u ≡ false) (same_var-true v w same) absent in cc
   | false ↦ λ other. refl
-  ] refl
+] refl
 
 some-range : (o : Option Range) (P : Range → Type 0) → IsSomeAnd o P → (range : Range) × (o ≡ Some range)
 some-range None P h = absurd h
@@ -78,9 +78,9 @@ single-met a b own single-a single-b = single-beside (merged a b) (merged a b) (
 has_var-kept : (known xs : List Term) (v : Var) → has_var xs v ≡ true → (has_var known v || has_var (without known xs) v) ≡ true
 has_var-kept known [] v stands = cc
 has_var-kept known (x ∷ xs) v stands = elim (same_var x.var v) as (λ s. same_var x.var v ≡ s → (s || has_var xs v) ≡ true → (has_var known v || has_var (without known (x ∷ xs)) v) ≡ true) [
-    true ↦ λ same h. kept-here known x xs v (same_var-true x.var v same)
+  | true ↦ λ same h. kept-here known x xs v (same_var-true x.var v same)
   | false ↦ λ other h. kept-later known x xs v other (has_var-kept known xs v h)
-  ] refl stands
+] refl stands
 
 -- a variable of one of the forms, and the own one, are met
 pub met-all : (a b : List Term) (own v : Var) → (has_var a v || has_var b v || same_var own v) ≡ true → has_var (met a b own) v ≡ true
@@ -94,17 +94,17 @@ met-all a b own v h =
 -- and nothing else is
 pub met-only : (a b : List Term) (own v : Var) → has_var (met a b own) v ≡ true → (has_var a v || has_var b v || same_var own v) ≡ true
 met-only a b own v h = elim (has_var a v || has_var b v || same_var own v) as (λ s. (has_var a v || has_var b v || same_var own v) ≡ s → s ≡ true) [
-    true ↦ λ e. refl
+  | true ↦ λ e. refl
   | false ↦ λ e.
       let first : has_var a v ≡ false = parts-first (has_var a v) (has_var b v) (same_var own v) e in
       let second : has_var b v ≡ false = parts-second (has_var a v) (has_var b v) (same_var own v) e in
       let third : same_var own v ≡ false = parts-third (has_var a v) (has_var b v) (same_var own v) e in
       let last : has_var (without (merged a b) (record { var = own; coeff = pos 1 } ∷ [])) v ≡ false = has_var-filter (λ term. not (has_var (merged a b) term.var)) (record { var = own; coeff = pos 1 } ∷ []) v (rw third refl) in
       let clash : has_var (met a b own) v ≡ false =
-          has_var-append (merged a b) (without (merged a b) (record { var = own; coeff = pos 1 } ∷ [])) v ∙
-          rw (has_var-append (map (raised_by b) a) (without a b) v, has_var-raised a b v, first, has_var-filter (λ term. not (has_var a term.var)) b v second, last) refl in
+      has_var-append (merged a b) (without (merged a b) (record { var = own; coeff = pos 1 } ∷ [])) v ∙
+      rw (has_var-append (map (raised_by b) a) (without a b) v, has_var-raised a b v, first, has_var-filter (λ term. not (has_var a term.var)) b v second, last) refl in
       cc
-  ] refl
+] refl
 
 without-nil : (known xs : List Term) → ((v : Var) → has_var xs v ≡ true → has_var known v ≡ true) → without known xs ≡ []
 without-nil known [] all = refl
@@ -127,9 +127,9 @@ point-takes a b over p q (t ∷ terms) only point =
 takes-at : (over : Region) (p q : Var → ℤ) (terms : List Term) (v : Var) → has_var terms v ≡ true → AllTake over terms p q → TakesAt over v (p v) (q v)
 takes-at over p q [] v stands all = absurd (never stands)
 takes-at over p q (t ∷ terms) v stands all = elim (same_var t.var v) as (λ s. same_var t.var v ≡ s → (s || has_var terms v) ≡ true → TakesAt over v (p v) (q v)) [
-    true ↦ λ same h. subst (λ w. TakesAt over w (p w) (q w)) (same_var-true t.var v same) all.0
+  | true ↦ λ same h. subst (λ w. TakesAt over w (p w) (q w)) (same_var-true t.var v same) all.0
   | false ↦ λ other h. takes-at over p q terms v h all.1
-  ] refl stands
+] refl stands
 
 -- the sum over all variables that are met bounds the difference of the forms
 pub bounds-summed : (a b : Form) (over : Region) (least most : ℤ) → IsSingle a.terms → IsSingle b.terms → Summed over a.terms b.terms (a.constant -ℤ b.constant) (met a.terms b.terms (Index over.own)) least most → Bounds a b over least most
@@ -139,13 +139,12 @@ bounds-summed a b over least most single-a single-b summed =
     let first : (v : Var) → has_var a.terms v ≡ true → has_var terms v ≡ true = λ v stands. met-all a.terms b.terms (Index over.own) v (rw stands refl) in
     let second : (v : Var) → has_var b.terms v ≡ true → has_var terms v ≡ true = λ v stands. met-all a.terms b.terms (Index over.own) v (or-second (has_var a.terms v) (has_var b.terms v) (same_var (Index over.own) v) stands) in
     let gap : (p q : Var → ℤ) → ((a.constant -ℤ b.constant) +ℤ gap_of terms a.terms b.terms p q) ≡ (value_of a p -ℤ value_of b q) =
-        λ p q. omega (arith, ints, matched-whole terms a.terms p first single single-a, matched-whole terms b.terms q second single single-b) in
+    λ p q. omega (arith, ints, matched-whole terms a.terms p first single single-a, matched-whole terms b.terms q second single single-b) in
     record {
       bounded = λ p q point. subst (λ d. (least ≤ℤ d) × (d ≤ℤ most)) (gap p q) (summed.bounded p q (point-takes a b over p q terms (λ v stands. met-only a.terms b.terms (Index over.own) v stands) point));
       least_reached = (summed.least_reached.0, (summed.least_reached.1.0, ((λ v is_met. takes-at over summed.least_reached.0 summed.least_reached.1.0 terms v (met-all a.terms b.terms (Index over.own) v is_met) summed.least_reached.1.1.0), sym (gap summed.least_reached.0 summed.least_reached.1.0) ∙ summed.least_reached.1.1.1)));
-      most_reached = (summed.most_reached.0, (summed.most_reached.1.0, ((λ v is_met. takes-at over summed.most_reached.0 summed.most_reached.1.0 terms v (met-all a.terms b.terms (Index over.own) v is_met) summed.most_reached.1.1.0), sym (gap summed.most_reached.0 summed.most_reached.1.0) ∙ summed.most_reached.1.1.1)))
+      most_reached = (summed.most_reached.0, (summed.most_reached.1.0, ((λ v is_met. takes-at over summed.most_reached.0 summed.most_reached.1.0 terms v (met-all a.terms b.terms (Index over.own) v is_met) summed.most_reached.1.1.0), sym (gap summed.most_reached.0 summed.most_reached.1.0) ∙ summed.most_reached.1.1.1)));
     }
-
 
 -- a term's variable stands
 pub has_var-get : (xs : List Term) (i : ℕ) (d : Term) → i < length xs → has_var xs (get_or xs i d).var ≡ true
@@ -172,7 +171,6 @@ summed-more over a b k terms i d least most low high h single values spans summe
     subst (λ w. Summed over a b k w (least +ℤ low) (most +ℤ high)) (sym (take_more terms i d h))
     (summed-push over a b k (take i terms) (get_or terms i d) known.0 least most low high (absent-before terms i d h single) known.1 (spans known.0 known.1) summed)
 
-
 -- each variable that is met has values
 pub values-met : (a b : Form) (over : Region) (items : List Term) (i : ℕ) (d : Term) → items ≡ met a.terms b.terms (Index over.own) → i < length items → ((var : Var) → IsMet a b over var → HasValuesAt over var) → HasValuesAt over (get_or items i d).var
 values-met a b over items i d e h values =
@@ -190,9 +188,9 @@ have-push over (u ∷ terms) t all last = (all.0, have-push over terms t all.1 l
 have-at : (over : Region) (terms : List Term) (v : Var) → has_var terms v ≡ true → AllHave over terms → HasValuesAt over v
 have-at over [] v stands all = absurd (never stands)
 have-at over (t ∷ terms) v stands all = elim (same_var t.var v) as (λ s. same_var t.var v ≡ s → (s || has_var terms v) ≡ true → HasValuesAt over v) [
-    true ↦ λ same h. subst (HasValuesAt over) (same_var-true t.var v same) all.0
+  | true ↦ λ same h. subst (HasValuesAt over) (same_var-true t.var v same) all.0
   | false ↦ λ other h. have-at over terms v h all.1
-  ] refl stands
+] refl stands
 
 -- where each variable that is met has values, the region has a point
 pub points-met : (a b : Form) (over : Region) (items : List Term) → items ≡ met a.terms b.terms (Index over.own) → AllHave over items → HasPoints a b over

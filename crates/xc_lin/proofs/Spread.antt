@@ -14,21 +14,21 @@ use Rattle.xc_lin.specs.Region.{Takes, Spans, apart, height, Reaches}
 pub reaches-up : (line : Line) → line.range.lo ≤ℤ line.range.hi → pos 0 ≤ℤ line.coeff → Reaches line (height line line.range.lo) (height line line.range.hi)
 reaches-up line some up = record {
   bounded = λ x within.
-    let low : (line.coeff *ℤ line.range.lo) ≤ℤ (line.coeff *ℤ x) = keeps-order line.coeff line.range.lo x up within.0 in
-    let high : (line.coeff *ℤ x) ≤ℤ (line.coeff *ℤ line.range.hi) = keeps-order line.coeff x line.range.hi up within.1 in
-    (omega (arith, ints, low), omega (arith, ints, high));
+      let low : (line.coeff *ℤ line.range.lo) ≤ℤ (line.coeff *ℤ x) = keeps-order line.coeff line.range.lo x up within.0 in
+      let high : (line.coeff *ℤ x) ≤ℤ (line.coeff *ℤ line.range.hi) = keeps-order line.coeff x line.range.hi up within.1 in
+      (omega (arith, ints, low), omega (arith, ints, high));
   least_reached = (line.range.lo, ((omega (arith, ints), some), refl));
-  most_reached = (line.range.hi, ((some, omega (arith, ints)), refl))
+  most_reached = (line.range.hi, ((some, omega (arith, ints)), refl));
 }
 
 pub reaches-down : (line : Line) → line.range.lo ≤ℤ line.range.hi → line.coeff ≤ℤ pos 0 → Reaches line (height line line.range.hi) (height line line.range.lo)
 reaches-down line some down = record {
   bounded = λ x within.
-    let low : (line.coeff *ℤ line.range.hi) ≤ℤ (line.coeff *ℤ x) = turns-order line.coeff x line.range.hi down within.1 in
-    let high : (line.coeff *ℤ x) ≤ℤ (line.coeff *ℤ line.range.lo) = turns-order line.coeff line.range.lo x down within.0 in
-    (omega (arith, ints, low), omega (arith, ints, high));
+      let low : (line.coeff *ℤ line.range.hi) ≤ℤ (line.coeff *ℤ x) = turns-order line.coeff x line.range.hi down within.1 in
+      let high : (line.coeff *ℤ x) ≤ℤ (line.coeff *ℤ line.range.lo) = turns-order line.coeff line.range.lo x down within.0 in
+      (omega (arith, ints, low), omega (arith, ints, high));
   least_reached = (line.range.hi, ((some, omega (arith, ints)), refl));
-  most_reached = (line.range.lo, ((omega (arith, ints), some), refl))
+  most_reached = (line.range.lo, ((omega (arith, ints), some), refl));
 }
 
 -- one value at both places
@@ -38,12 +38,12 @@ difference a b x = omega (arith, ints, times-plus a (neg_ℤ b) x, neg-times b x
 pub spans-shared : (range : Range) (a b least most : ℤ) → Reaches (record { coeff = a -ℤ b; shift = pos 0; range = range }) least most → Spans Shared range a b least most
 spans-shared range a b least most reaches = record {
   bounded = λ x y takes.
-    let line : (least ≤ℤ (((a -ℤ b) *ℤ x) +ℤ pos 0)) × ((((a -ℤ b) *ℤ x) +ℤ pos 0) ≤ℤ most) = reaches.bounded x takes.0 in
-    let one : apart a b x x ≡ apart a b x y = ap (apart a b x) takes.2 in
-    let e = difference a b x in
-    (omega (arith, ints, line.0, e, one), omega (arith, ints, line.1, e, one));
+      let line : (least ≤ℤ (((a -ℤ b) *ℤ x) +ℤ pos 0)) × ((((a -ℤ b) *ℤ x) +ℤ pos 0) ≤ℤ most) = reaches.bounded x takes.0 in
+      let one : apart a b x x ≡ apart a b x y = ap (apart a b x) takes.2 in
+      let e = difference a b x in
+      (omega (arith, ints, line.0, e, one), omega (arith, ints, line.1, e, one));
   least_reached = (reaches.least_reached.0, (reaches.least_reached.0, ((reaches.least_reached.1.0, reaches.least_reached.1.0, refl), sym (difference a b reaches.least_reached.0) ∙ reaches.least_reached.1.1)));
-  most_reached = (reaches.most_reached.0, (reaches.most_reached.0, ((reaches.most_reached.1.0, reaches.most_reached.1.0, refl), sym (difference a b reaches.most_reached.0) ∙ reaches.most_reached.1.1)))
+  most_reached = (reaches.most_reached.0, (reaches.most_reached.0, ((reaches.most_reached.1.0, reaches.most_reached.1.0, refl), sym (difference a b reaches.most_reached.0) ∙ reaches.most_reached.1.1)));
 }
 
 -- values that are not bound to each other
@@ -53,14 +53,30 @@ two-lines a b x y = omega (arith, ints, neg-times b y)
 pub spans-apart : (range : Range) (a b least most low high : ℤ) → Reaches (record { coeff = a; shift = pos 0; range = range }) least most → Reaches (record { coeff = neg_ℤ b; shift = pos 0; range = range }) low high → Spans Apart range a b (least +ℤ low) (most +ℤ high)
 spans-apart range a b least most low high first second = record {
   bounded = λ x y takes.
-    let one : (least ≤ℤ ((a *ℤ x) +ℤ pos 0)) × (((a *ℤ x) +ℤ pos 0) ≤ℤ most) = first.bounded x takes.0 in
-    let two : (low ≤ℤ ((neg_ℤ b *ℤ y) +ℤ pos 0)) × (((neg_ℤ b *ℤ y) +ℤ pos 0) ≤ℤ high) = second.bounded y takes.1 in
-    let e = two-lines a b x y in
-    (omega (arith, ints, one.0, two.0, e), omega (arith, ints, one.1, two.1, e));
-  least_reached = (first.least_reached.0, (second.least_reached.0, ((first.least_reached.1.0, second.least_reached.1.0, tt),
-    sum first.least_reached.0 second.least_reached.0 least low first.least_reached.1.1 second.least_reached.1.1)));
-  most_reached = (first.most_reached.0, (second.most_reached.0, ((first.most_reached.1.0, second.most_reached.1.0, tt),
-    sum first.most_reached.0 second.most_reached.0 most high first.most_reached.1.1 second.most_reached.1.1)))
+      let one : (least ≤ℤ ((a *ℤ x) +ℤ pos 0)) × (((a *ℤ x) +ℤ pos 0) ≤ℤ most) = first.bounded x takes.0 in
+      let two : (low ≤ℤ ((neg_ℤ b *ℤ y) +ℤ pos 0)) × (((neg_ℤ b *ℤ y) +ℤ pos 0) ≤ℤ high) = second.bounded y takes.1 in
+      let e = two-lines a b x y in
+      (omega (arith, ints, one.0, two.0, e), omega (arith, ints, one.1, two.1, e));
+  least_reached = (
+    first.least_reached.0,
+    (
+      second.least_reached.0,
+      (
+        (first.least_reached.1.0, second.least_reached.1.0, tt),
+        sum first.least_reached.0 second.least_reached.0 least low first.least_reached.1.1 second.least_reached.1.1,
+      ),
+    ),
+  );
+  most_reached = (
+    first.most_reached.0,
+    (
+      second.most_reached.0,
+      (
+        (first.most_reached.1.0, second.most_reached.1.0, tt),
+        sum first.most_reached.0 second.most_reached.0 most high first.most_reached.1.1 second.most_reached.1.1,
+      ),
+    ),
+  );
 } where
   sum : (x y u v : ℤ) → ((a *ℤ x) +ℤ pos 0) ≡ u → ((neg_ℤ b *ℤ y) +ℤ pos 0) ≡ v → apart a b x y ≡ (u +ℤ v)
   sum x y u v e f = omega (arith, ints, two-lines a b x y, e, f)
@@ -100,19 +116,19 @@ pub spans-below : (range : Range) (a b n0 n1 l0 l1 : ℤ) →
     Spans Below range a b (int_min n0 l0) (int_max n1 l1)
 spans-below range a b n0 n1 l0 l1 next last = record {
   bounded = λ x y takes.
-    let within : (range.lo ≤ℤ x) × (x ≤ℤ (range.hi -ℤ pos 1)) = (takes.0.0, omega (arith, ints, takes.1.1, takes.2)) in
-    let one : (n0 ≤ℤ (((a -ℤ b) *ℤ x) +ℤ neg_ℤ b)) × ((((a -ℤ b) *ℤ x) +ℤ neg_ℤ b) ≤ℤ n1) = next.bounded x within in
-    let two : (l0 ≤ℤ ((a *ℤ x) +ℤ neg_ℤ (b *ℤ range.hi))) × (((a *ℤ x) +ℤ neg_ℤ (b *ℤ range.hi)) ≤ℤ l1) = last.bounded x within in
-    let e = next-place a b x in
-    held x y range.hi one two e (sandwich b (x +ℤ pos 1) y range.hi (omega (arith, ints, takes.2)) takes.1.1);
+      let within : (range.lo ≤ℤ x) × (x ≤ℤ (range.hi -ℤ pos 1)) = (takes.0.0, omega (arith, ints, takes.1.1, takes.2)) in
+      let one : (n0 ≤ℤ (((a -ℤ b) *ℤ x) +ℤ neg_ℤ b)) × ((((a -ℤ b) *ℤ x) +ℤ neg_ℤ b) ≤ℤ n1) = next.bounded x within in
+      let two : (l0 ≤ℤ ((a *ℤ x) +ℤ neg_ℤ (b *ℤ range.hi))) × (((a *ℤ x) +ℤ neg_ℤ (b *ℤ range.hi)) ≤ℤ l1) = last.bounded x within in
+      let e = next-place a b x in
+      held x y range.hi one two e (sandwich b (x +ℤ pos 1) y range.hi (omega (arith, ints, takes.2)) takes.1.1);
   least_reached = elim (lesser n0 l0) [
-      inl e ↦ (next.least_reached.0, (next.least_reached.0 +ℤ pos 1, (near next.least_reached.0 next.least_reached.1.0, sym (next-place a b next.least_reached.0) ∙ next.least_reached.1.1 ∙ sym e)))
+    | inl e ↦ (next.least_reached.0, (next.least_reached.0 +ℤ pos 1, (near next.least_reached.0 next.least_reached.1.0, sym (next-place a b next.least_reached.0) ∙ next.least_reached.1.1 ∙ sym e)))
     | inr e ↦ (last.least_reached.0, (range.hi, (far last.least_reached.0 last.least_reached.1.0, last.least_reached.1.1 ∙ sym e)))
-    ];
+  ];
   most_reached = elim (greater n1 l1) [
-      inl e ↦ (next.most_reached.0, (next.most_reached.0 +ℤ pos 1, (near next.most_reached.0 next.most_reached.1.0, sym (next-place a b next.most_reached.0) ∙ next.most_reached.1.1 ∙ sym e)))
+    | inl e ↦ (next.most_reached.0, (next.most_reached.0 +ℤ pos 1, (near next.most_reached.0 next.most_reached.1.0, sym (next-place a b next.most_reached.0) ∙ next.most_reached.1.1 ∙ sym e)))
     | inr e ↦ (last.most_reached.0, (range.hi, (far last.most_reached.0 last.most_reached.1.0, last.most_reached.1.1 ∙ sym e)))
-    ]
+  ];
 } where
   held : (x y hi : ℤ) → ((n0 ≤ℤ (((a -ℤ b) *ℤ x) +ℤ neg_ℤ b)) × ((((a -ℤ b) *ℤ x) +ℤ neg_ℤ b) ≤ℤ n1)) → ((l0 ≤ℤ ((a *ℤ x) +ℤ neg_ℤ (b *ℤ hi))) × (((a *ℤ x) +ℤ neg_ℤ (b *ℤ hi)) ≤ℤ l1)) → (((a -ℤ b) *ℤ x) +ℤ neg_ℤ b) ≡ apart a b x (x +ℤ pos 1) → (((b *ℤ (x +ℤ pos 1)) ≤ℤ (b *ℤ y)) × ((b *ℤ y) ≤ℤ (b *ℤ hi))) ⊎ (((b *ℤ hi) ≤ℤ (b *ℤ y)) × ((b *ℤ y) ≤ℤ (b *ℤ (x +ℤ pos 1)))) → (int_min n0 l0 ≤ℤ apart a b x y) × (apart a b x y ≤ℤ int_max n1 l1)
   held x y hi one two e (inl h) = (omega (arith, ints, clamps, one.0, two.0, e, h.0, h.1), omega (arith, ints, clamps, one.1, two.1, e, h.0, h.1))
@@ -132,5 +148,5 @@ pub spans-above : (range : Range) (a b least most : ℤ) → Spans Below range (
 spans-above range a b least most spans = record {
   bounded = λ x y takes. subst (λ v. (least ≤ℤ v) × (v ≤ℤ most)) (turned a b x y) (spans.bounded y x (takes.1, takes.0, takes.2));
   least_reached = (spans.least_reached.1.0, (spans.least_reached.0, ((spans.least_reached.1.1.0.1, spans.least_reached.1.1.0.0, spans.least_reached.1.1.0.2), sym (turned a b spans.least_reached.1.0 spans.least_reached.0) ∙ spans.least_reached.1.1.1)));
-  most_reached = (spans.most_reached.1.0, (spans.most_reached.0, ((spans.most_reached.1.1.0.1, spans.most_reached.1.1.0.0, spans.most_reached.1.1.0.2), sym (turned a b spans.most_reached.1.0 spans.most_reached.0) ∙ spans.most_reached.1.1.1)))
+  most_reached = (spans.most_reached.1.0, (spans.most_reached.0, ((spans.most_reached.1.1.0.1, spans.most_reached.1.1.0.0, spans.most_reached.1.1.0.2), sym (turned a b spans.most_reached.1.0 spans.most_reached.0) ∙ spans.most_reached.1.1.1)));
 }

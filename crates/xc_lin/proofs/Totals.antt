@@ -30,7 +30,7 @@ pub summed-nil : (over : Region) (a b : List Term) (k : ℤ) → Summed over a b
 summed-nil over a b k = record {
   bounded = λ p q all. (omega (arith, ints), omega (arith, ints));
   least_reached = (λ v. pos 0, (λ v. pos 0, (tt, nowhere k)));
-  most_reached = (λ v. pos 0, (λ v. pos 0, (tt, nowhere k)))
+  most_reached = (λ v. pos 0, (λ v. pos 0, (tt, nowhere k)));
 }
 
 -- the values with another one for a variable
@@ -47,9 +47,9 @@ assign-other v w x p other = rw (differs w v other) refl
 
 left-out : (t : Term) (terms : List Term) (v : Var) → has_var (t ∷ terms) v ≡ false → (same_var t.var v ≡ false) × (has_var terms v ≡ false)
 left-out t terms v absent = elim (same_var t.var v) as (λ s. (s || has_var terms v) ≡ false → (s ≡ false) × (has_var terms v ≡ false)) [
-    true ↦ λ no. cc
+  | true ↦ λ no. cc
   | false ↦ λ no. (refl, no)
-  ] absent
+] absent
 
 matched-assign : (terms a : List Term) (v : Var) (x : ℤ) (p : Var → ℤ) → has_var terms v ≡ false → matched terms a (assign v x p) ≡ matched terms a p
 matched-assign [] a v x p absent = refl
@@ -96,12 +96,12 @@ pub summed-push : (over : Region) (a b : List Term) (k : ℤ) (terms : List Term
     Spans (tie_of over t.var) range (coefficient_of a t.var) (coefficient_of b t.var) low high → Summed over a b k terms least most → Summed over a b k (terms ++ t ∷ []) (least +ℤ low) (most +ℤ high)
 summed-push over a b k terms t range least most low high absent known spans summed = record {
   bounded = λ p q all.
-    let parts = take-front over terms t p q all in
-    let own : Takes (tie_of over t.var) range (p t.var) (q t.var) = subst (λ r. IsSomeAnd r (λ range. Takes (tie_of over t.var) range (p t.var) (q t.var))) known parts.1 in
-    let one : (least ≤ℤ (k +ℤ gap_of terms a b p q)) × ((k +ℤ gap_of terms a b p q) ≤ℤ most) = summed.bounded p q parts.0 in
-    let two : (low ≤ℤ apart (coefficient_of a t.var) (coefficient_of b t.var) (p t.var) (q t.var)) × (apart (coefficient_of a t.var) (coefficient_of b t.var) (p t.var) (q t.var) ≤ℤ high) = spans.bounded (p t.var) (q t.var) own in
-    let e = gap-push terms a b t p q in
-    (omega (arith, ints, one.0, two.0, e), omega (arith, ints, one.1, two.1, e));
+      let parts = take-front over terms t p q all in
+      let own : Takes (tie_of over t.var) range (p t.var) (q t.var) = subst (λ r. IsSomeAnd r (λ range. Takes (tie_of over t.var) range (p t.var) (q t.var))) known parts.1 in
+      let one : (least ≤ℤ (k +ℤ gap_of terms a b p q)) × ((k +ℤ gap_of terms a b p q) ≤ℤ most) = summed.bounded p q parts.0 in
+      let two : (low ≤ℤ apart (coefficient_of a t.var) (coefficient_of b t.var) (p t.var) (q t.var)) × (apart (coefficient_of a t.var) (coefficient_of b t.var) (p t.var) (q t.var) ≤ℤ high) = spans.bounded (p t.var) (q t.var) own in
+      let e = gap-push terms a b t p q in
+      (omega (arith, ints, one.0, two.0, e), omega (arith, ints, one.1, two.1, e));
   least_reached = reach-push over a b k terms t range least low absent known summed.least_reached spans.least_reached;
-  most_reached = reach-push over a b k terms t range most high absent known summed.most_reached spans.most_reached
+  most_reached = reach-push over a b k terms t range most high absent known summed.most_reached spans.most_reached;
 }

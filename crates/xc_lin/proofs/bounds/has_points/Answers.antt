@@ -10,10 +10,11 @@ abbrev none : Term
 none = record { var = Index 0; coeff = pos 0 }
 
 pub returns-then-not-has_values : goal.returns-then-not-has_values
-returns-then-not-has_values c =
-    (λ no. absurd (never_true no),
-     λ points. c.if-not-has_values.ensures.1
-       (values-met c.args.a.now c.args.b.now c.args.over.now c.as_slice-term-items.result.now c.loop-term.term-index none (c.as_slice-term-items.ensures ∙ c.met-terms.ensures.items) c.loop-term-test.true points))
+returns-then-not-has_values c = (
+  λ no. absurd (never_true no),
+  λ points. c.if-not-has_values.ensures.1
+      (values-met c.args.a.now c.args.b.now c.args.over.now c.as_slice-term-items.result.now c.loop-term.term-index none (c.as_slice-term-items.ensures ∙ c.met-terms.ensures.items) c.loop-term-test.true points),
+)
 
 pub loop-term-preserved : goal.loop-term-preserved
 loop-term-preserved c =
@@ -22,6 +23,7 @@ loop-term-preserved c =
 
 pub returns : goal.returns
 returns c =
-    let all : take c.loop-term.term-index c.as_slice-term-items.result.now ≡ c.as_slice-term-items.result.now = take_all _ _ (omega arith) in
-    (λ yes. points-met c.args.a.now c.args.b.now c.args.over.now c.as_slice-term-items.result.now (c.as_slice-term-items.ensures ∙ c.met-terms.ensures.items) (subst (AllHave c.args.over.now) all c.loop-term.invariant),
-     λ points. refl)
+    let all : take c.loop-term.term-index c.as_slice-term-items.result.now ≡ c.as_slice-term-items.result.now = take_all _ _ (omega arith) in (
+      λ yes. points-met c.args.a.now c.args.b.now c.args.over.now c.as_slice-term-items.result.now (c.as_slice-term-items.ensures ∙ c.met-terms.ensures.items) (subst (AllHave c.args.over.now) all c.loop-term.invariant),
+      λ points. refl,
+    )
