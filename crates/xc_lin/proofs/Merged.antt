@@ -1,9 +1,9 @@
-use Rattle.std.proofs.Common.{◌≡◌, ◌<◌, ◌+◌, ◌∙◌, ℕ, ℤ, pos, ◌+ℤ◌, ◌*ℤ◌, Bool, true, false, not, ◌||◌, cond, List, [], ◌∷◌, ◌++◌, length, map, take, drop, ap, sym, refl, arith, length-append, get_or, filter, unsigned_abs, ◌==◌, subst, Result, Ok, Err, IsOk, IfOk, ◌↔◌}
-use Rattle.std.proofs.Math.IntN.{zero-*ℤ}
+use Rattle.std.proofs.Common.{◌≡◌, ◌<◌, ◌+◌, ◌∙◌, ℕ, ℤ, pos, negsuc, neg_ℤ, zero, suc, ◌-ℤ◌, All, ◌+ℤ◌, ◌*ℤ◌, Bool, true, false, not, ◌||◌, cond, List, [], ◌∷◌, ◌++◌, length, map, take, drop, ap, sym, refl, arith, length-append, get_or, filter, unsigned_abs, ◌==◌, subst, Result, Ok, Err, IsOk, IfOk, ◌↔◌}
+use Rattle.std.proofs.Math.IntN.{zero-*ℤ, *ℤ-negsuc, *ℤ-one, one}
 use Rattle.std.proofs.lemmas.Bool.{eqb-true}
-use Rattle.std.proofs.lemmas.List.{take-append-drop, take_more}
+use Rattle.std.proofs.lemmas.List.{take-append-drop, take_more, length-map}
 use Rattle.std.proofs.Math.ListN.{get_or-append}
-use Rattle.std.proofs.lemmas.Int.{ints}
+use Rattle.std.proofs.lemmas.Int.{ints, unsigned_abs-mul}
 use Rattle.std.proofs.lemmas.List.Elements.{filter-append}
 use Rattle.xc_lin.proofs.Outcomes.{times-plus, times-swap}
 use Rattle.xc_lin.specs.declared.affine.Var.{Var}
@@ -216,3 +216,50 @@ pub value-times : {E : Type 0} (r : Result Form E) (all : List Term) (k by : ℤ
 value-times (Ok form) all k by a e f ok = λ at.
     ap (λ w. value_of w at) (ok ∙ ap (λ z. let w : Form = record { terms = nonzero all; constant = z } in w) f ∙ ap (λ terms. let w : Form = record { terms = nonzero terms; constant = a.constant *ℤ by } in w) e) ∙ value_of-times a by at
 value-times (Err e) all k by a s f ok = tt
+
+zero-size : (z : ℤ) → unsigned_abs z ≡ 0 → z ≡ pos 0
+zero-size z e = omega (arith, ints, e)
+
+one-times : (z : ℤ) → (z *ℤ pos 1) ≡ z
+unfolding one
+one-times z = *ℤ-one z
+
+turned-one : (z : ℤ) → (z *ℤ negsuc 0) ≡ neg_ℤ z
+turned-one z = *ℤ-negsuc z 0 ∙ ap neg_ℤ (one-times z)
+
+turned-size : (z : ℤ) → unsigned_abs (z *ℤ negsuc 0) ≡ unsigned_abs z
+turned-size z = unsigned_abs-mul z (negsuc 0) ∙ omega arith
+
+turned-coefficient : (z : ℤ) → IsCoefficient z → IsCoefficient (z *ℤ negsuc 0)
+turned-coefficient z ok = (λ e. ok.0 (zero-size z (sym (turned-size z) ∙ ap unsigned_abs e)), rw (turned-size z) ok.1)
+
+nonzero-turned : (xs : List Term) → All (λ t. IsCoefficient t.coeff) xs → nonzero (map (scaled (negsuc 0)) xs) ≡ map (scaled (negsuc 0)) xs
+nonzero-turned [] all = refl
+nonzero-turned (x ∷ xs) all =
+    let own : IsCoefficient (x.coeff *ℤ negsuc 0) = turned-coefficient x.coeff (all 0 x (omega arith)) in
+    let rest : nonzero (map (scaled (negsuc 0)) xs) ≡ map (scaled (negsuc 0)) xs = nonzero-turned xs (λ k d h. all (suc k) d (omega (arith, h))) in
+    elim (unsigned_abs (x.coeff *ℤ negsuc 0) == 0) as (λ b. (unsigned_abs (x.coeff *ℤ negsuc 0) == 0) ≡ b → cond (not b) (scaled (negsuc 0) x ∷ nonzero (map (scaled (negsuc 0)) xs)) (nonzero (map (scaled (negsuc 0)) xs)) ≡ scaled (negsuc 0) x ∷ map (scaled (negsuc 0)) xs) [
+      | true ↦ λ e. absurd (own.0 (zero_of (x.coeff *ℤ negsuc 0) e))
+      | false ↦ λ e. ap (λ w. scaled (negsuc 0) x ∷ w) rest
+    ] refl
+
+coefficients-turned : (xs : List Term) → All (λ t. IsCoefficient t.coeff) xs → All (λ t. IsCoefficient t.coeff) (map (scaled (negsuc 0)) xs)
+coefficients-turned [] all k d h = absurd (omega (arith, h))
+coefficients-turned (x ∷ xs) all zero d h = turned-coefficient x.coeff (all 0 x (omega arith))
+coefficients-turned (x ∷ xs) all (suc k) d h = coefficients-turned xs (λ j e g. all (suc j) e (omega (arith, g))) k d (omega (arith, h))
+
+-- a form with its signs turned is within the limits
+pub narrow-turned : (a : Form) → IsNarrow a → IsNarrow (times a (negsuc 0))
+narrow-turned a narrow = (
+  (rw (nonzero-turned a.terms narrow.0.1) (omega (arith, length-map a.terms (scaled (negsuc 0)), narrow.0.0)), rw (nonzero-turned a.terms narrow.0.1) (coefficients-turned a.terms narrow.0.1)),
+  rw (turned-size a.constant) narrow.1,
+)
+
+-- and has the value with its sign turned
+pub value_of-turned : (a : Form) (at : Var → ℤ) → value_of (times a (negsuc 0)) at ≡ neg_ℤ (value_of a at)
+value_of-turned a at = value_of-times a (negsuc 0) at ∙ omega (arith, ints, turned-one (value_of a at))
+
+-- the value of a difference
+pub value-minus : {E : Type 0} (r : Result Form E) (a b turned : Form) → ((at : Var → ℤ) → value_of turned at ≡ neg_ℤ (value_of b at)) → IfOk r (λ sum. (at : Var → ℤ) → value_of sum at ≡ (value_of a at +ℤ value_of turned at)) → IfOk r (λ sum. (at : Var → ℤ) → value_of sum at ≡ (value_of a at -ℤ value_of b at))
+value-minus (Ok form) a b turned h ok = λ at. ok at ∙ ap (λ w. value_of a at +ℤ w) (h at)
+value-minus (Err e) a b turned h ok = tt

@@ -1,5 +1,5 @@
 //! Affine forms: a constant plus coefficients times indices and symbols.
-ghost use Rattle.std.specs.Prelude.{◌≡◌, ◌+ℤ◌, ◌*ℤ◌, ◌^◌, ◌<◌, ◌≤◌, ℤ, pos, neg_ℤ, [], ◌∷◌, ◌++◌, IsTrue, IfOk, OnOk, IsOk, ◌↔◌, unsigned_abs, length, map, All};
+ghost use Rattle.std.specs.Prelude.{◌≡◌, ◌+ℤ◌, ◌*ℤ◌, ◌^◌, ◌<◌, ◌≤◌, ℤ, ◌-ℤ◌, pos, negsuc, neg_ℤ, [], ◌∷◌, ◌++◌, IsTrue, IfOk, OnOk, IsOk, ◌↔◌, unsigned_abs, length, map, All};
 ghost use Rattle.xc_lin.specs.Affine.{has_var, coefficient_of, same_var, IsSingle, IsCoefficient, AreNarrow, IsNarrow, merged, met, nonzero, plus, scaled, times, value_of};
 
 use crate::LoopId;
@@ -241,6 +241,7 @@ impl Affine {
     /// The form times a number. It takes no memory.
     pub fn scale(&self, by: i64) -> Result<Affine, TooWide>
         requires { unsigned_abs by ≤ 2 ^ 31 }
+        ensures narrow { IsNarrow self.now }
         ensures ok { IfOk result (λ product. product ≡ times self.now by) }
         ensures fits { IsOk result ↔ IsNarrow (times self.now by) }
         ensures value { IfOk result (λ product. (at : Var → ℤ) → value_of product at ≡ (value_of self.now at *ℤ by)) }
@@ -249,6 +250,23 @@ impl Affine {
         let terms = scale_terms(alloc, self.terms.as_slice(), by);
         let constant = product(self.constant, by);
         Affine::of_terms(alloc, terms.as_slice(), constant)
+    }
+
+    /// The form with all signs turned. It takes no memory.
+    pub fn negate(&self) -> Affine
+        ensures form { result ≡ times self.now (negsuc 0) }
+        ensures value { (at : Var → ℤ) → value_of result at ≡ neg_ℤ (value_of self.now at) }
+    {
+        self.scale(-1).unwrap()
+    }
+
+    /// The difference of two forms. It takes no memory.
+    pub fn subtract(&self, other: &Affine) -> Result<Affine, TooWide>
+        ensures ok { IfOk result (λ difference. difference ≡ plus self.now (times other.now (negsuc 0))) }
+        ensures fits { IsOk result ↔ IsNarrow (plus self.now (times other.now (negsuc 0))) }
+        ensures value { IfOk result (λ difference. (at : Var → ℤ) → value_of difference at ≡ (value_of self.now at -ℤ value_of other.now at)) }
+    {
+        self.add(&other.negate())
     }
 
     /// The sum of two forms. It takes no memory.
