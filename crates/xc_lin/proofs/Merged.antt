@@ -1,9 +1,9 @@
-use Rattle.std.proofs.Common.{◌≡◌, ◌<◌, ◌+◌, ◌∙◌, ℕ, ℤ, pos, ◌+ℤ◌, ◌*ℤ◌, Bool, true, false, not, ◌||◌, cond, List, [], ◌∷◌, ◌++◌, length, map, take, drop, ap, sym, refl, arith, length-append, get_or, filter, unsigned_abs, ◌==◌, subst, Result, Ok, Err, IsOk, IfOk, ◌↔◌}
-use Rattle.std.proofs.Math.IntN.{zero-*ℤ}
+use Rattle.std.proofs.Common.{◌≡◌, ◌<◌, ◌+◌, ◌∙◌, ℕ, ℤ, pos, negsuc, neg_ℤ, zero, suc, ◌-ℤ◌, All, ◌+ℤ◌, ◌*ℤ◌, Bool, true, false, not, ◌||◌, cond, List, [], ◌∷◌, ◌++◌, length, map, take, drop, ap, sym, refl, arith, length-append, get_or, filter, unsigned_abs, ◌==◌, subst, Result, Ok, Err, IsOk, IfOk, ◌↔◌}
+use Rattle.std.proofs.Math.IntN.{zero-*ℤ, *ℤ-negsuc, *ℤ-one, one}
 use Rattle.std.proofs.lemmas.Bool.{eqb-true}
-use Rattle.std.proofs.lemmas.List.{take-append-drop, take_more}
+use Rattle.std.proofs.lemmas.List.{take-append-drop, take_more, length-map}
 use Rattle.std.proofs.Math.ListN.{get_or-append}
-use Rattle.std.proofs.lemmas.Int.{ints}
+use Rattle.std.proofs.lemmas.Int.{ints, unsigned_abs-mul}
 use Rattle.std.proofs.lemmas.List.Elements.{filter-append}
 use Rattle.xc_lin.proofs.Outcomes.{times-plus, times-swap}
 use Rattle.xc_lin.specs.declared.affine.Var.{Var}
@@ -29,7 +29,7 @@ same_var-true (GlobalSymbol a) (Index b) same = cc
 same_var-true (GlobalSymbol a) (Symbol b) same = cc
 same_var-true (GlobalSymbol a) (GlobalSymbol b) same = ap GlobalSymbol (grind (arith, same))
 
-differs : (v w : Var) → same_var v w ≡ false → same_var w v ≡ false
+pub differs : (v w : Var) → same_var v w ≡ false → same_var w v ≡ false
 differs v w different = elim (same_var w v) as (λ s. same_var w v ≡ s → s ≡ false) [
   | true ↦ λ same. let e : w ≡ v = same_var-true w v same in let clash : same_var v v ≡ false = subst (λ u. same_var v u ≡ false) e different in let own : same_var v v ≡ true = same_var-refl v in cc
   | false ↦ λ same. refl
@@ -57,14 +57,14 @@ sum_of-append [] ys at = omega (arith, ints)
 sum_of-append (x ∷ xs) ys at = omega (arith, ints, sum_of-append xs ys at)
 
 -- a test that leaves terms out adds no variable
-has_var-filter : (p : Term → Bool) (xs : List Term) (v : Var) → has_var xs v ≡ false → has_var (filter p xs) v ≡ false
+pub has_var-filter : (p : Term → Bool) (xs : List Term) (v : Var) → has_var xs v ≡ false → has_var (filter p xs) v ≡ false
 has_var-filter p [] v absent = refl
 has_var-filter p (x ∷ xs) v absent = elim (p x) as (λ b. has_var (cond b (x ∷ filter p xs) (filter p xs)) v ≡ false) [
   | true ↦ grind (arith, has_var-filter p xs v, absent)
   | false ↦ grind (arith, has_var-filter p xs v, absent)
 ]
 
-single-filter : (p : Term → Bool) (xs : List Term) → IsSingle xs → IsSingle (filter p xs)
+pub single-filter : (p : Term → Bool) (xs : List Term) → IsSingle xs → IsSingle (filter p xs)
 single-filter p [] single = tt
 single-filter p (x ∷ xs) single = elim (p x) as (λ b. IsSingle (cond b (x ∷ filter p xs) (filter p xs))) [
   | true ↦ (has_var-filter p xs x.var single.0, single-filter p xs single.1)
@@ -76,7 +76,7 @@ pub single-nonzero : (xs : List Term) → IsSingle xs → IsSingle (nonzero xs)
 single-nonzero xs single = single-filter _ xs single
 
 -- a variable that is known is left out
-has_var-without : (known xs : List Term) (v : Var) → has_var known v ≡ true → has_var (without known xs) v ≡ false
+pub has_var-without : (known xs : List Term) (v : Var) → has_var known v ≡ true → has_var (without known xs) v ≡ false
 has_var-without known [] v stands = refl
 has_var-without known (x ∷ xs) v stands = elim (has_var known x.var) as (λ b. has_var known x.var ≡ b → has_var (cond (not b) (x ∷ without known xs) (without known xs)) v ≡ false) [
   | true ↦ λ e. has_var-without known xs v stands
@@ -109,7 +109,7 @@ sum_of-nonzero (x ∷ xs) at = elim (unsigned_abs x.coeff == 0) as (λ b. (unsig
 ] refl
 
 -- what the second form's terms add to the first's
-matched : List Term → List Term → (Var → ℤ) → ℤ
+abbrev pub matched : List Term → List Term → (Var → ℤ) → ℤ
 matched [] b at = pos 0
 matched (x ∷ a) b at = (coefficient_of b x.var *ℤ at x.var) +ℤ matched a b at
 
@@ -117,18 +117,15 @@ four-terms : (p q r s t : ℤ) → t ≡ (r +ℤ s) → ((p +ℤ q) +ℤ t) ≡ 
 four-terms p q r s t e = omega (arith, ints)
 
 sum_of-raised : (a b : List Term) (at : Var → ℤ) → sum_of (map (raised_by b) a) at ≡ (sum_of a at +ℤ matched a b at)
-unfolding matched
 sum_of-raised [] b at = omega (arith, ints)
 sum_of-raised (x ∷ a) b at = rw times-plus (four-terms (x.coeff *ℤ at x.var) (coefficient_of b x.var *ℤ at x.var) (sum_of a at) (matched a b at) (sum_of (map (raised_by b) a) at) (sum_of-raised a b at))
 
 matched-nil : (a : List Term) (at : Var → ℤ) → matched a [] at ≡ pos 0
-unfolding matched
 matched-nil [] at = refl
 matched-nil (x ∷ a) at = omega (arith, ints, zero-*ℤ (at x.var), matched-nil a at)
 
 -- one more term of the second form adds to no term of the first where the first has not its variable
 matched-absent : (a b : List Term) (t : Term) (at : Var → ℤ) → has_var a t.var ≡ false → matched a (t ∷ b) at ≡ matched a b at
-unfolding matched
 matched-absent [] b t at absent = refl
 matched-absent (x ∷ a) b t at absent =
     let other : same_var t.var x.var ≡ false = differs x.var t.var (grind (arith, absent)) in
@@ -136,7 +133,6 @@ matched-absent (x ∷ a) b t at absent =
     rw other (ap (λ w. (coefficient_of b x.var *ℤ at x.var) +ℤ w) (matched-absent a b t at rest))
 
 matched-here : (a b : List Term) (x t : Term) (at : Var → ℤ) → x.var ≡ t.var → has_var a x.var ≡ false → has_var b t.var ≡ false → matched (x ∷ a) (t ∷ b) at ≡ (matched (x ∷ a) b at +ℤ (t.coeff *ℤ at t.var))
-unfolding matched
 matched-here a b x t at e rest fresh =
     let absent : has_var a t.var ≡ false = subst (λ v. has_var a v ≡ false) e rest in
     let none : coefficient_of b t.var ≡ pos 0 = coefficient_of-absent b t.var fresh in
@@ -145,7 +141,6 @@ matched-here a b x t at e rest fresh =
 
 -- and else to exactly one
 matched-present : (a b : List Term) (t : Term) (at : Var → ℤ) → IsSingle a → has_var b t.var ≡ false → has_var a t.var ≡ true → matched a (t ∷ b) at ≡ (matched a b at +ℤ (t.coeff *ℤ at t.var))
-unfolding matched
 matched-present [] b t at single fresh stands = cc
 matched-present (x ∷ a) b t at single fresh stands = elim (same_var x.var t.var) as (λ s. same_var x.var t.var ≡ s → matched (x ∷ a) (t ∷ b) at ≡ (matched (x ∷ a) b at +ℤ (t.coeff *ℤ at t.var))) [
   | true ↦ λ same. matched-here a b x t at (same_var-true x.var t.var same) single.0 fresh
@@ -156,7 +151,7 @@ matched-present (x ∷ a) b t at single fresh stands = elim (same_var x.var t.va
 ] refl
 
 -- what the second form adds, and its other terms, are the second form
-matched-without : (a b : List Term) (at : Var → ℤ) → IsSingle a → IsSingle b → (matched a b at +ℤ sum_of (without a b) at) ≡ sum_of b at
+pub matched-without : (a b : List Term) (at : Var → ℤ) → IsSingle a → IsSingle b → (matched a b at +ℤ sum_of (without a b) at) ≡ sum_of b at
 matched-without a [] at single-a single-b = rw (matched-nil a at) (omega (arith, ints))
 matched-without a (t ∷ b) at single-a single-b = elim (has_var a t.var) as (λ s. has_var a t.var ≡ s → (matched a (t ∷ b) at +ℤ sum_of (cond (not s) (t ∷ without a b) (without a b)) at) ≡ ((t.coeff *ℤ at t.var) +ℤ sum_of b at)) [
   | true ↦ λ stands. omega (arith, ints, matched-present a b t at single-a single-b.0 stands, matched-without a b at single-a single-b.1)
@@ -221,3 +216,50 @@ pub value-times : {E : Type 0} (r : Result Form E) (all : List Term) (k by : ℤ
 value-times (Ok form) all k by a e f ok = λ at.
     ap (λ w. value_of w at) (ok ∙ ap (λ z. let w : Form = record { terms = nonzero all; constant = z } in w) f ∙ ap (λ terms. let w : Form = record { terms = nonzero terms; constant = a.constant *ℤ by } in w) e) ∙ value_of-times a by at
 value-times (Err e) all k by a s f ok = tt
+
+zero-size : (z : ℤ) → unsigned_abs z ≡ 0 → z ≡ pos 0
+zero-size z e = omega (arith, ints, e)
+
+one-times : (z : ℤ) → (z *ℤ pos 1) ≡ z
+unfolding one
+one-times z = *ℤ-one z
+
+turned-one : (z : ℤ) → (z *ℤ negsuc 0) ≡ neg_ℤ z
+turned-one z = *ℤ-negsuc z 0 ∙ ap neg_ℤ (one-times z)
+
+turned-size : (z : ℤ) → unsigned_abs (z *ℤ negsuc 0) ≡ unsigned_abs z
+turned-size z = unsigned_abs-mul z (negsuc 0) ∙ omega arith
+
+turned-coefficient : (z : ℤ) → IsCoefficient z → IsCoefficient (z *ℤ negsuc 0)
+turned-coefficient z ok = (λ e. ok.0 (zero-size z (sym (turned-size z) ∙ ap unsigned_abs e)), rw (turned-size z) ok.1)
+
+nonzero-turned : (xs : List Term) → All (λ t. IsCoefficient t.coeff) xs → nonzero (map (scaled (negsuc 0)) xs) ≡ map (scaled (negsuc 0)) xs
+nonzero-turned [] all = refl
+nonzero-turned (x ∷ xs) all =
+    let own : IsCoefficient (x.coeff *ℤ negsuc 0) = turned-coefficient x.coeff (all 0 x (omega arith)) in
+    let rest : nonzero (map (scaled (negsuc 0)) xs) ≡ map (scaled (negsuc 0)) xs = nonzero-turned xs (λ k d h. all (suc k) d (omega (arith, h))) in
+    elim (unsigned_abs (x.coeff *ℤ negsuc 0) == 0) as (λ b. (unsigned_abs (x.coeff *ℤ negsuc 0) == 0) ≡ b → cond (not b) (scaled (negsuc 0) x ∷ nonzero (map (scaled (negsuc 0)) xs)) (nonzero (map (scaled (negsuc 0)) xs)) ≡ scaled (negsuc 0) x ∷ map (scaled (negsuc 0)) xs) [
+      | true ↦ λ e. absurd (own.0 (zero_of (x.coeff *ℤ negsuc 0) e))
+      | false ↦ λ e. ap (λ w. scaled (negsuc 0) x ∷ w) rest
+    ] refl
+
+coefficients-turned : (xs : List Term) → All (λ t. IsCoefficient t.coeff) xs → All (λ t. IsCoefficient t.coeff) (map (scaled (negsuc 0)) xs)
+coefficients-turned [] all k d h = absurd (omega (arith, h))
+coefficients-turned (x ∷ xs) all zero d h = turned-coefficient x.coeff (all 0 x (omega arith))
+coefficients-turned (x ∷ xs) all (suc k) d h = coefficients-turned xs (λ j e g. all (suc j) e (omega (arith, g))) k d (omega (arith, h))
+
+-- a form with its signs turned is within the limits
+pub narrow-turned : (a : Form) → IsNarrow a → IsNarrow (times a (negsuc 0))
+narrow-turned a narrow = (
+  (rw (nonzero-turned a.terms narrow.0.1) (omega (arith, length-map a.terms (scaled (negsuc 0)), narrow.0.0)), rw (nonzero-turned a.terms narrow.0.1) (coefficients-turned a.terms narrow.0.1)),
+  rw (turned-size a.constant) narrow.1,
+)
+
+-- and has the value with its sign turned
+pub value_of-turned : (a : Form) (at : Var → ℤ) → value_of (times a (negsuc 0)) at ≡ neg_ℤ (value_of a at)
+value_of-turned a at = value_of-times a (negsuc 0) at ∙ omega (arith, ints, turned-one (value_of a at))
+
+-- the value of a difference
+pub value-minus : {E : Type 0} (r : Result Form E) (a b turned : Form) → ((at : Var → ℤ) → value_of turned at ≡ neg_ℤ (value_of b at)) → IfOk r (λ sum. (at : Var → ℤ) → value_of sum at ≡ (value_of a at +ℤ value_of turned at)) → IfOk r (λ sum. (at : Var → ℤ) → value_of sum at ≡ (value_of a at -ℤ value_of b at))
+value-minus (Ok form) a b turned h ok = λ at. ok at ∙ ap (λ w. value_of a at +ℤ w) (h at)
+value-minus (Err e) a b turned h ok = tt

@@ -1,1 +1,2 @@
 pub mod Affine
+pub mod Region

@@ -1,6 +1,6 @@
 //! Affine forms: a constant plus coefficients times indices and symbols.
-ghost use Rattle.std.specs.Prelude.{◌≡◌, ◌+ℤ◌, ◌*ℤ◌, ◌^◌, ◌<◌, ◌≤◌, ℤ, pos, neg_ℤ, [], ◌∷◌, ◌++◌, IsTrue, IfOk, OnOk, IsOk, ◌↔◌, unsigned_abs, length, map, All};
-ghost use Rattle.xc_lin.specs.Affine.{has_var, coefficient_of, same_var, IsSingle, IsCoefficient, AreNarrow, IsNarrow, merged, nonzero, plus, scaled, times, value_of};
+ghost use Rattle.std.specs.Prelude.{◌≡◌, ◌+ℤ◌, ◌*ℤ◌, ◌^◌, ◌<◌, ◌≤◌, ℤ, ◌-ℤ◌, pos, negsuc, neg_ℤ, [], ◌∷◌, ◌++◌, IsTrue, IfOk, OnOk, IsOk, ◌↔◌, unsigned_abs, length, map, All};
+ghost use Rattle.xc_lin.specs.Affine.{has_var, coefficient_of, same_var, IsSingle, IsCoefficient, AreNarrow, IsNarrow, merged, met, nonzero, plus, scaled, times, value_of};
 
 use crate::LoopId;
 use smallvec::SmallVec;
@@ -94,12 +94,14 @@ fn has(terms: &[Term], var: Var) -> bool
 }
 
 /// The terms of two forms, those with one variable together.
-fn merge(alloc: Global, a: &[Term], b: &[Term]) -> SmallVec<Term, 16>
+fn merge(alloc: Global, a: &[Term], b: &[Term]) -> SmallVec<Term, 17>
     requires few_first { length a.now ≤ 8 }
     requires few_second { length b.now ≤ 8 }
     requires narrow_first { All (λ term. IsCoefficient term.coeff) a.now }
     requires narrow_second { All (λ term. IsCoefficient term.coeff) b.now }
-    ensures { result.items ≡ merged a.now b.now }
+    ensures items { result.items ≡ merged a.now b.now }
+    ensures few { length result.items ≤ 16 }
+    ensures room { result.capacity ≡ 17 }
 {
     let mut terms = SmallVec::new(alloc);
     for term in a {
@@ -215,14 +217,31 @@ impl Affine {
 
     /// What a variable is multiplied with, 0 where it does not stand.
     pub fn coefficient(&self, var: Var) -> i64
-        ensures { result ≡ coefficient_of self.now.terms var }
+        ensures value { result ≡ coefficient_of self.now.terms var }
+        ensures narrow { unsigned_abs result ≤ 2 ^ 20 }
     {
         coefficient(self.terms.as_slice(), var)
+    }
+
+    /// The terms of two forms, and a variable where they do not have it.
+    pub(crate) fn met(&self, other: &Affine, var: Var) -> SmallVec<Term, 17>
+        ensures items { result.items ≡ met self.now.terms other.now.terms var }
+        ensures few { length result.items ≤ 17 }
+        ensures single_first { IsSingle self.now.terms }
+        ensures single_second { IsSingle other.now.terms }
+    {
+        let alloc = *self.terms.allocator();
+        let mut terms = merge(alloc, self.terms.as_slice(), other.terms.as_slice());
+        if !has(terms.as_slice(), var) {
+            terms.push_reserved(Term { var, coeff: 1 });
+        }
+        terms
     }
 
     /// The form times a number. It takes no memory.
     pub fn scale(&self, by: i64) -> Result<Affine, TooWide>
         requires { unsigned_abs by ≤ 2 ^ 31 }
+        ensures narrow { IsNarrow self.now }
         ensures ok { IfOk result (λ product. product ≡ times self.now by) }
         ensures fits { IsOk result ↔ IsNarrow (times self.now by) }
         ensures value { IfOk result (λ product. (at : Var → ℤ) → value_of product at ≡ (value_of self.now at *ℤ by)) }
@@ -231,6 +250,23 @@ impl Affine {
         let terms = scale_terms(alloc, self.terms.as_slice(), by);
         let constant = product(self.constant, by);
         Affine::of_terms(alloc, terms.as_slice(), constant)
+    }
+
+    /// The form with all signs turned. It takes no memory.
+    pub fn negate(&self) -> Affine
+        ensures form { result ≡ times self.now (negsuc 0) }
+        ensures value { (at : Var → ℤ) → value_of result at ≡ neg_ℤ (value_of self.now at) }
+    {
+        self.scale(-1).unwrap()
+    }
+
+    /// The difference of two forms. It takes no memory.
+    pub fn subtract(&self, other: &Affine) -> Result<Affine, TooWide>
+        ensures ok { IfOk result (λ difference. difference ≡ plus self.now (times other.now (negsuc 0))) }
+        ensures fits { IsOk result ↔ IsNarrow (plus self.now (times other.now (negsuc 0))) }
+        ensures value { IfOk result (λ difference. (at : Var → ℤ) → value_of difference at ≡ (value_of self.now at -ℤ value_of other.now at)) }
+    {
+        self.add(&other.negate())
     }
 
     /// The sum of two forms. It takes no memory.

@@ -2,12 +2,14 @@
 #![tactic(auto)]
 
 pub mod affine;
+pub mod bounds;
 pub mod certificate;
 pub mod divisor;
 pub mod plan;
 pub mod region;
 
 pub use affine::{Affine, Term, TooWide, Var};
+pub use bounds::{extremes, has_points};
 pub use certificate::{
     Answers, Certs, Class, CrossCert, Letter, LoopCert, Op, PairCert, PartCert, ScalarCert, Why,
 };
@@ -16,7 +18,7 @@ pub use plan::{
     Classes, Conflict, Found, Guard, LoopPlan, Operand, Plan, Reason, Recurrence, Reduction, Side,
     Target,
 };
-pub use region::{Range, Region};
+pub use region::{Range, Region, Tie};
 
 /// The place of a loop in its program, in text order from 0.
 pub type LoopId = u32;

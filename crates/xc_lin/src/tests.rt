@@ -1,4 +1,5 @@
 use super::*;
+use sqlite_items::Items;
 use std::alloc::Global;
 use std::process::Abort;
 use std::test::Fail;
@@ -38,7 +39,7 @@ fn sums_and_products(rt: HostRuntime) -> Result<(), Fail> {
     is_line(&rt, &sum.scale(-3)?, i, -15, -3);
     let widest = line(alloc, i, 1 << 20, 0)?;
     assert!(rt; widest.add(&line(alloc, i, 1, 0)?).is_err());
-    let nothing = widest.add(&line(alloc, i, -(1 << 20), 0)?)?;
+    let nothing = widest.subtract(&widest)?;
     assert_eq!(rt; nothing.terms().len(), 0);
     Ok(())
 }
@@ -58,4 +59,94 @@ fn limits_of_forms(rt: HostRuntime) {
     for (count, constant, fits) in [(8, 1 << 31, true), (9, 0, false), (0, (1 << 31) + 1, false)] {
         assert_eq!(rt; symbols(alloc, count, constant).is_ok(), fits);
     }
+}
+
+/// Two forms over an own index, an inner index and a symbol, each with a constant at the end, with the
+/// ranges of the three variables and what every point of the box was tried to give.
+#[derive(Clone, Copy)]
+struct Trial {
+    a: [i32; 4],
+    b: [i32; 4],
+    ranges: [(i64, i64); 3],
+    low: bool,
+    extremes: (i128, i128),
+}
+
+fn form(alloc: Global, parts: [i32; 4]) -> Result<Affine, TooWide> {
+    let [own, inner, symbol, constant] = parts;
+    line(alloc, Var::Index(0), own, constant)?
+        .add(&line(alloc, Var::Index(1), inner, 0)?)?
+        .add(&line(alloc, Var::Symbol(0), symbol, 0)?)
+}
+
+fn region(alloc: Global, ranges: [(i64, i64); 3], low: bool) -> Result<Region, Fail> {
+    let vars = [Var::Index(0), Var::Index(1), Var::Symbol(0)];
+    let mut known = Items::new(alloc);
+    for (var, (lo, hi)) in vars.into_iter().zip(ranges) {
+        known.push((var, Range { lo, hi }))?;
+    }
+    Ok(Region {
+        ranges: known,
+        low,
+        own: 0,
+    })
+}
+
+fn tried(alloc: Global, row: &Trial) -> Result<Option<(i128, i128)>, Fail> {
+    let (a, b) = (form(alloc, row.a)?, form(alloc, row.b)?);
+    let over = region(alloc, row.ranges, row.low)?;
+    if has_points(&a, &b, &over) {
+        Ok(Some(extremes(&a, &b, &over)))
+    } else {
+        Ok(None)
+    }
+}
+
+#[test]
+fn extremes_of_boxes(rt: HostRuntime) -> Result<(), Fail> {
+    let next = Trial {
+        a: [1, 0, 0, 0],
+        b: [1, 0, 0, 1],
+        ranges: [(0, 9), (0, 0), (0, 0)],
+        low: true,
+        extremes: (-10, -2),
+    };
+    let mixed = Trial {
+        a: [2, -3, 1, 5],
+        b: [-1, 4, 1, 0],
+        ranges: [(-2, 3), (1, 4), (-5, 5)],
+        low: true,
+        extremes: (-28, 5),
+    };
+    let steep = Trial {
+        a: [-3, 0, 2, -1],
+        b: [5, 0, -2, 0],
+        ranges: [(1, 4), (2, 2), (-3, 2)],
+        low: true,
+        extremes: (-42, -6),
+    };
+    let inner = Trial {
+        a: [0, 1, 0, 0],
+        b: [0, 1, 3, 0],
+        ranges: [(0, 1), (7, 7), (-4, 1)],
+        low: true,
+        extremes: (-3, 12),
+    };
+    let highs = [(0, 8), (-27, 6), (-40, -4), (-3, 12)];
+    let rows = [next, mixed, steep, inner];
+    for (row, high) in rows.iter().zip(highs.iter()) {
+        assert_eq!(rt; tried(rt.alloc(), row)?, Some(row.extremes));
+        let turned = Trial {
+            low: false,
+            extremes: *high,
+            ..*row
+        };
+        assert_eq!(rt; tried(rt.alloc(), &turned)?, Some(turned.extremes));
+        let single = Trial {
+            ranges: [(3, 3), (0, 0), (0, 0)],
+            ..*row
+        };
+        assert_eq!(rt; tried(rt.alloc(), &single)?, None);
+    }
+    Ok(())
 }

@@ -6,7 +6,7 @@ use Rattle.xc_lin.proofs.affine.Affine.add.Goals as goal
 
 pub of_terms-requires : goal.of_terms-requires
 of_terms-requires c =
-    rw (c.as_slice-3.ensures, c.merge-terms.ensures, c.as_slice.ensures, c.as_slice-2.ensures)
+    rw (c.as_slice-3.ensures, c.merge-terms.ensures.items, c.as_slice.ensures, c.as_slice-2.ensures)
     (single-merged c.self.inside.terms.items c.other.inside.terms.items c.self.invariant.1 c.other.invariant.1)
 
 -- the terms are those of the two forms
@@ -14,7 +14,7 @@ all : (c : goal.Joined-terms) → c.as_slice-3.result.now ≡ merged c.args.self
 all c =
     let first : c.as_slice.result.now ≡ c.args.self.now.terms = c.as_slice.ensures ∙ ap (λ form. form.terms) c.self.view_is in
     let second : c.as_slice-2.result.now ≡ c.args.other.now.terms = c.as_slice-2.ensures ∙ ap (λ form. form.terms) c.other.view_is in
-    c.as_slice-3.ensures ∙ c.merge-terms.ensures ∙ ap (λ terms. merged terms c.as_slice-2.result.now) first ∙ ap (merged c.args.self.now.terms) second
+    c.as_slice-3.ensures ∙ c.merge-terms.ensures.items ∙ ap (λ terms. merged terms c.as_slice-2.result.now) first ∙ ap (merged c.args.self.now.terms) second
 
 pub returns-clause-fits : goal.returns-clause-fits
 returns-clause-fits c =
