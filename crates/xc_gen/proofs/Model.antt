@@ -2,9 +2,8 @@
 use Rattle.std.proofs.Common.{ℕ, zero, suc, List, [], ◌∷◌, ◌++◌, map}
 use Rattle.std.specs.Prelude.{nat_lt, if◌then◌else◌}
 use Rattle.xc_word.specs.declared.memory.Kind.TheVariants.{ReadXx, WriteXf}
-use Rattle.xc_word.specs.declared.memory.Cell.{Cell}
 use Rattle.xc_word.specs.Table.{full_with}
-use Rattle.xc_action.specs.World.{Segs, World, Reach, Request, On, Print as Shows, Got, Action, act_of, put, tick}
+use Rattle.xc_action.specs.World.{Segs, World, Reach, On, Print as Shows, Got, Action, act_of, put, tick}
 use Rattle.xc_format.specs.Pieces.{text_of}
 use Rattle.xc_meaning.specs.Programs.{Expr, Number, Global, Binary, Stmt, Assign, Print, Return}
 use Rattle.xc_meaning.specs.Meaning.{binary_of, access_of, format_at}

@@ -1,37 +1,34 @@
 -- The code of a program, step by step: each expression's value comes into its register, and the world is the source's, with the
 -- frame beside it.
-use Rattle.std.proofs.Common.{◌≡◌, ℕ, zero, suc, ◌+◌, ◌-◌, ◌*◌, ◌^◌, ◌<◌, ◌≤◌, List, [], ◌∷◌, ◌++◌, length, map, Option, Some, None, Bool, true, false, cond, refl, sym, ap, ◌∙◌, subst, arith, append-nil}
-use mathlib.Core.Path.{fun_ext}
-use Rattle.std.specs.Prelude.{nat_lt, slice_get, slice_set, replicate, unwrap_or, max}
+use Rattle.std.proofs.Common.{◌≡◌, ℕ, zero, suc, ◌+◌, ◌*◌, ◌^◌, ◌<◌, ◌≤◌, List, [], ◌∷◌, ◌++◌, length, map, Option, Some, None, Bool, true, false, cond, refl, sym, ap, ◌∙◌, subst, arith}
+use Rattle.std.specs.Prelude.{nat_lt, slice_get, slice_set, unwrap_or}
 use Rattle.std.specs.Option.{option_map}
 use Rattle.std.proofs.lemmas.List.{length-set}
-use Rattle.xc_word.specs.declared.memory.Kind.{Kind}
 use Rattle.xc_word.specs.declared.memory.Kind.TheVariants.{ReadXx, WriteXf}
 use Rattle.xc_word.specs.declared.memory.Cell.{Cell}
-use Rattle.xc_word.specs.Cells.{fresh}
 use Rattle.xc_word.specs.Table.{full_with}
 use Rattle.xc_format.specs.declared.Piece.{Piece}
 use Rattle.xc_format.specs.declared.Piece.TheVariants as piece
 use Rattle.xc_format.specs.Pieces.{pieces_of, conversions_of, value_text, printed, text_of}
-use Rattle.xc_action.specs.World.{Segs, World, Reach, New, Free, Request, On, Print as Shows, Got, put, serve}
+use Rattle.xc_action.specs.World.{Segs, World, Reach, Request, On, Print as Shows, Got, put, serve}
 use Rattle.xc_action.proofs.Puts.{put_same, put_at, put_other, put_put, put_swap, get_set_same, get_set_other, set_same}
-use Rattle.xc_action.proofs.Served.{serve_reach, serve_free, same_world}
+use Rattle.xc_action.proofs.Served.{serve_reach, same_world}
 use Rattle.xc_meaning.specs.declared.tree.BinaryOp.{BinaryOp}
 use Rattle.xc_meaning.specs.declared.tree.BinaryOp.TheVariants.{Add, Subtract, Multiply}
 use Rattle.xc_meaning.specs.Programs.{Expr, Number, Global, Binary, Stmt, Assign, Print, Return}
-use Rattle.xc_meaning.specs.Meaning.{binary_of, access_of, format_at}
+use Rattle.xc_meaning.specs.Meaning.{binary_of}
 use Rattle.xc_isa.specs.declared.instr.Code.{Code}
 use Rattle.xc_isa.specs.declared.instr.LoadKind.TheVariants.{Ld}
 use Rattle.xc_isa.specs.declared.instr.StoreKind.TheVariants.{St}
 use Rattle.xc_isa.specs.declared.instr.Instr.{Instr}
 use Rattle.xc_isa.specs.declared.instr.Instr.TheVariants as instr
-use Rattle.xc_isa.specs.Effects.{Regs, Goes, Asks, binary, read, reaches, prints, printed_regs, effect}
-use Rattle.xc_isa.specs.Machine.{Empty, Live, last_after}
+use Rattle.xc_isa.specs.Effects.{Regs, Asks, binary, read, prints, printed_regs, effect}
+use Rattle.xc_isa.specs.Machine.{Live, last_after}
 use Rattle.xc_isa.proofs.Follows.{HasAt, behind, behind_append, has_front, has_back, Conf, conf, Goes_to, Follows, follows_on, goes, asks, at_base, reaches_base}
 use Rattle.xc_gen.specs.Emitted.{frame_cells, operation_of, pointer_to, most_globals, expr_code, assign_code, print_code, body_code, waiting_in, NamesBelow, FitsExpr, FitsBody, PrintsOne, PrintsFit}
 use Rattle.xc_gen.specs.Faithful.{words_of}
-use Rattle.xc_gen.proofs.Model.{eval, line_of, env_after, out_after, globals_with, source}
-use Rattle.xc_gen.proofs.Traces.{global_is, above_is, write_is}
+use Rattle.xc_gen.proofs.Model.{eval, line_of, env_after, out_after, globals_with}
+use Rattle.xc_gen.proofs.Traces.{global_is, write_is}
 
 -- the machine's world: the source's globals, and the frame as the next segment
 abbrev pub world_with : ℕ → (ℕ → ℕ) → List ℕ → List Cell → World

@@ -1,5 +1,5 @@
 -- The actions of a program are a trace of it, and the memory allows them.
-use Rattle.std.proofs.Common.{◌≡◌, ℕ, zero, suc, ◌+◌, ◌<◌, ◌≤◌, List, [], ◌∷◌, ◌++◌, length, map, Option, Some, None, Bool, true, false, cond, refl, sym, ap, ◌∙◌, subst, arith, append_assoc, append-nil}
+use Rattle.std.proofs.Common.{◌≡◌, ℕ, zero, suc, ◌<◌, ◌≤◌, List, [], ◌∷◌, ◌++◌, Some, None, Bool, true, false, cond, refl, sym, ap, ◌∙◌, subst, arith, append_assoc, append-nil}
 use mathlib.Core.Path.{fun_ext}
 use Rattle.std.specs.Prelude.{nat_lt, slice_get, replicate, unwrap_or}
 use Rattle.std.proofs.lemmas.Bool.{lt-ltb, ltb-true, ltb-false}
@@ -7,15 +7,15 @@ use Rattle.xc_word.specs.declared.memory.Kind.TheVariants.{ReadXx, WriteXf}
 use Rattle.xc_word.specs.declared.memory.Cell.{Cell}
 use Rattle.xc_word.specs.Cells.{fresh}
 use Rattle.xc_word.specs.Table.{full_with}
-use Rattle.xc_action.specs.World.{Segs, World, Reach, Request, On, Print as Shows, Stop, Tick, Reply, Got, Action, act_of, put, tick, segs_of, world_of, serve}
+use Rattle.xc_action.specs.World.{World, Reach, Request, On, Print as Shows, Stop, Tick, Reply, Got, Action, put, tick, segs_of, world_of, serve}
 use Rattle.xc_action.specs.Runs.{part_of, Applies, ticks}
 use Rattle.xc_action.proofs.Puts.{put_same, put_at, put_other, by_same, eqb_other}
 use Rattle.xc_action.proofs.Served.{serve_reach, same_world}
 use Rattle.xc_meaning.specs.Programs.{Expr, Number, Global, Binary, Stmt, Assign, Print, Return, Program}
-use Rattle.xc_meaning.specs.Meaning.{Value, Gives, Traps, Cuts, Outcome, Done, Returned, then_value, with_value, then_do, value_of, binary_of, access_of, ticked, asked, meaning, in_order, ended, called, format_at, trace_of}
+use Rattle.xc_meaning.specs.Meaning.{Value, Gives, Outcome, Done, Returned, then_value, with_value, then_do, value_of, binary_of, access_of, ticked, asked, in_order, ended, called, trace_of}
 use Rattle.xc_meaning.specs.Source.{reply_and, replies_of, first_globals, SourceRun, HasEnded}
-use Rattle.xc_gen.specs.Emitted.{NamesBelow, FitsExpr, FitsBody}
-use Rattle.xc_gen.proofs.Model.{eval, read_act, write_act, print_act, reads, line_of, env_after, out_after, acts, globals_with, source, of_main}
+use Rattle.xc_gen.specs.Emitted.{NamesBelow, FitsBody}
+use Rattle.xc_gen.proofs.Model.{eval, write_act, print_act, reads, line_of, env_after, out_after, acts, globals_with, source, of_main}
 
 -- ---- the meaning
 

@@ -1,29 +1,26 @@
 -- The whole code of a program, and what follows for all of its runs.
-use Rattle.std.proofs.Common.{◌≡◌, ℕ, zero, suc, ◌+◌, ◌-◌, ◌*◌, ◌^◌, ◌<◌, ◌≤◌, List, [], ◌∷◌, ◌++◌, length, Some, refl, sym, ap, ◌∙◌, subst, arith, inl, inr, length-append}
-use Rattle.std.specs.Prelude.{◌⊎◌, slice_get, replicate, max}
+use Rattle.std.proofs.Common.{◌≡◌, ℕ, zero, suc, ◌+◌, ◌*◌, ◌^◌, ◌≤◌, List, [], ◌∷◌, ◌++◌, length, Some, refl, sym, ap, ◌∙◌, subst, arith, inl, inr, length-append}
+use Rattle.std.specs.Prelude.{◌⊎◌, replicate}
 use Rattle.std.proofs.Math.Nat.{suc-mul, mul_comm}
 use Rattle.std.proofs.lemmas.Nat.{mul-le}
 use Rattle.std.proofs.lemmas.List.{length-replicate}
 use Rattle.xc_word.specs.declared.memory.Cell.{Cell}
 use Rattle.xc_word.specs.Cells.{fresh}
 use Rattle.xc_action.specs.World.{World, New, Free, Action, On, Got, put, serve, world_of}
-use Rattle.xc_action.specs.Runs.{HasTrapped, ticks}
 use Rattle.xc_action.proofs.Puts.{put_same, put_put, put_at}
 use Rattle.xc_action.proofs.Served.{serve_free, same_world}
 use Rattle.xc_meaning.specs.Programs.{Expr, Number, Global, Binary, Stmt, Assign, Print, Return, Program}
 use Rattle.xc_meaning.specs.Source.{first_globals, SourceRun, HasEnded}
 use Rattle.xc_isa.specs.declared.instr.Code.{Code}
 use Rattle.xc_isa.specs.declared.instr.TrapKind.{TrapKind}
-use Rattle.xc_isa.specs.declared.instr.Instr.{Instr}
 use Rattle.xc_isa.specs.declared.instr.Instr.TheVariants as instr
-use Rattle.xc_isa.specs.Effects.{Regs}
 use Rattle.xc_isa.specs.Machine.{State, Slot, Empty, Live, At, Trap, run, step, start, HasQuit}
-use Rattle.xc_isa.proofs.Follows.{HasAt, behind, behind_append, has_front, has_back, has_all, Conf, conf, state_of, Goes_to, Follows, follows_on, goes, asks, quits, frees_base, IsWithin, within, free_slots}
-use Rattle.xc_gen.specs.Emitted.{frame_cells, most_globals, expr_code, body_code, enter_code, leave_code, whole_code, PrintsFit, Fits}
-use Rattle.xc_gen.specs.Faithful.{SameResult, Faithful, size_of, stmt_size, largest, TicksAtMost, words_of, live, step_bound, word_bound, Ends, GoesOn}
+use Rattle.xc_isa.proofs.Follows.{HasAt, behind, has_front, has_back, has_all, Conf, conf, state_of, Goes_to, Follows, follows_on, goes, asks, quits, frees_base, IsWithin, within, free_slots}
+use Rattle.xc_gen.specs.Emitted.{frame_cells, expr_code, body_code, enter_code, leave_code, whole_code, PrintsFit, Fits}
+use Rattle.xc_gen.specs.Faithful.{SameResult, Faithful, size_of, largest, TicksAtMost, words_of, live, step_bound, word_bound, Ends, GoesOn}
 use Rattle.xc_gen.proofs.Model.{env_after, out_after, globals_with, source, of_main}
 use Rattle.xc_gen.proofs.Traces.{above_is, first_is, whole_trace, last_world, has_run, has_ended, begun, ticks_whole}
-use Rattle.xc_gen.proofs.Paths.{world_with, words_with, globals_few, IsSmall, at_place, Sits, small, body_runs, cell_below}
+use Rattle.xc_gen.proofs.Paths.{world_with, globals_few, IsSmall, at_place, Sits, small, body_runs}
 
 -- ---- lengths
 

@@ -1,5 +1,5 @@
 -- The instructions that the generator makes of a program.
-use Rattle.std.specs.Prelude.{◌≡◌, ℕ, suc, ◌+◌, ◌-◌, ◌*◌, ◌^◌, ◌<◌, ◌≤◌, List, [], ◌∷◌, ◌++◌, Some, slice_get, max}
+use Rattle.std.specs.Prelude.{◌≡◌, ℕ, suc, ◌-◌, ◌*◌, ◌^◌, ◌<◌, ◌≤◌, List, [], ◌∷◌, ◌++◌, Some, slice_get, max}
 use Rattle.std.specs.Option.{option_map}
 use Rattle.xc_format.specs.Pieces.{pieces_of, conversions_of}
 use Rattle.xc_isa.specs.declared.instr.BinaryOp.{BinaryOp as Operation}

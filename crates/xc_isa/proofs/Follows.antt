@@ -1,5 +1,5 @@
 -- A stream that is alone in its machine follows straight code.
-use Rattle.std.proofs.Common.{◌≡◌, ℕ, zero, suc, ◌+◌, ◌*◌, ◌/◌, ◌%◌, ◌^◌, ◌-◌, ◌<◌, ◌≤◌, List, [], ◌∷◌, ◌++◌, length, Option, Some, None, true, false, cond, refl, sym, ap, ◌∙◌, subst, arith, inl, inr}
+use Rattle.std.proofs.Common.{◌≡◌, ℕ, zero, suc, ◌+◌, ◌*◌, ◌/◌, ◌%◌, ◌^◌, ◌-◌, ◌<◌, ◌≤◌, List, [], ◌∷◌, ◌++◌, length, Option, Some, None, cond, refl, sym, ap, ◌∙◌, subst, arith, inl, inr}
 use Rattle.std.specs.Prelude.{◌==◌, ◌⊎◌, slice_get, replicate}
 use Rattle.std.proofs.lemmas.Bool.{lt-ltb}
 use Rattle.xc_word.specs.declared.memory.Kind.{Kind}
@@ -7,10 +7,9 @@ use Rattle.xc_word.specs.declared.memory.Access.{Access}
 use Rattle.xc_action.specs.World.{World, Request, On, Reach, Free, Got, serve}
 use Rattle.xc_isa.specs.declared.instr.Code.{Code}
 use Rattle.xc_isa.specs.declared.instr.Instr.{Instr}
-use Rattle.xc_isa.specs.declared.instr.TrapKind.{TrapKind}
 use Rattle.xc_isa.specs.declared.instr.TrapKind.TheVariants as trap
-use Rattle.xc_isa.specs.Effects.{Regs, Effect, Goes, Asks, Faults, Quits, reaches, frees, effect}
-use Rattle.xc_isa.specs.Machine.{Slot, Empty, Live, State, After, At, Trap, NoRun, last_after, numbered, with_slot, served, takes, in_slot, step, onward, run, HasQuit}
+use Rattle.xc_isa.specs.Effects.{Regs, Goes, Asks, Faults, Quits, reaches, frees, effect}
+use Rattle.xc_isa.specs.Machine.{Slot, Empty, Live, State, After, At, Trap, NoRun, last_after, with_slot, served, takes, in_slot, step, onward, run, HasQuit}
 
 -- the instructions stand in the code from this place on
 abbrev pub HasAt : List Instr → ℕ → List Instr → Type 0

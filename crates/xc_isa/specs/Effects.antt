@@ -1,6 +1,5 @@
 -- What an instruction does to its stream, and what it asks of the world.
 use Rattle.std.specs.Prelude.{ℕ, suc, ◌+◌, ◌-◌, ◌*◌, ◌/◌, ◌%◌, ◌^◌, ◌==◌, nat_lt, List, [], ◌∷◌, Option, Some, None, slice_get, map, if◌then◌else◌}
-use Rattle.xc_word.specs.declared.memory.Access.{Access}
 use Rattle.xc_word.specs.declared.memory.Kind.{Kind}
 use Rattle.xc_word.specs.declared.memory.Kind.TheVariants.{ReadXx, ReadFe, ReadFf, WriteXf, WriteEf, WriteFf}
 use Rattle.xc_action.specs.World.{Reach, New, Free, Request, On, Print, put}

@@ -1,5 +1,5 @@
 -- The machine: streams in slots over one memory and one output. One step is one instruction of one stream.
-use Rattle.std.specs.Prelude.{◌≡◌, ℕ, zero, suc, ◌-◌, ◌^◌, nat_lt, List, [], ◌∷◌, Option, Some, None, slice_get, slice_set, replicate, if◌then◌else◌}
+use Rattle.std.specs.Prelude.{◌≡◌, ℕ, suc, ◌-◌, ◌^◌, nat_lt, List, [], ◌∷◌, Option, Some, None, slice_get, slice_set, replicate, if◌then◌else◌}
 use Rattle.xc_word.specs.Cells.{fresh}
 use Rattle.xc_word.specs.declared.memory.Cell.{Cell}
 use Rattle.xc_action.specs.World.{World, Touch, Reach, New, Free, Request, On, Print, Stop, Tick, Reply, Got, Dead, serve, world_of}

@@ -1,14 +1,14 @@
 -- Steps that make or free a segment.
-use Rattle.std.proofs.Common.{◌≡◌, ℕ, zero, suc, ◌+◌, ◌-◌, ◌*◌, ◌/◌, ◌%◌, ◌^◌, ◌<◌, List, Option, Some, None, true, false, cond, refl, sym, ap, ◌∙◌}
+use Rattle.std.proofs.Common.{◌≡◌, ℕ, suc, ◌-◌, ◌*◌, ◌/◌, ◌%◌, ◌^◌, ◌<◌, List, Option, Some, None, true, cond, refl, ap, ◌∙◌}
 use Rattle.std.specs.Prelude.{◌==◌, is_some, replicate}
 use Rattle.std.specs.FinMap.{insert, remove}
 use Rattle.std.proofs.lemmas.Bool.{lt-ltb}
 use Rattle.xc_word.specs.declared.memory.Cell.{Cell}
 use Rattle.xc_word.specs.Cells.{Segments, cell_at, fresh}
-use Rattle.xc_action.specs.World.{New, Free, On, Got, serve}
+use Rattle.xc_action.specs.World.{New, Free, On, serve}
 use Rattle.xc_isa.specs.declared.instr.TrapKind.TheVariants as trap
 use Rattle.xc_isa.specs.Effects.{Regs, Asks, Faults, frees}
-use Rattle.xc_isa.specs.Machine.{Slot, Live, After, NoRun, with_slot, served, takes}
+use Rattle.xc_isa.specs.Machine.{Slot, Live, NoRun, with_slot, served, takes}
 use Rattle.xc_machine.specs.Shows.{world_in}
 use Rattle.xc_machine.proofs.Shown.{new_served, free_served}
 

@@ -2,7 +2,7 @@
 use Rattle.std.proofs.Common.{◌≡◌, ℕ, zero, suc, [], ◌∷◌, Option, Some, None, Bool, true, false, not, refl, sym}
 use Rattle.std.specs.Prelude.{◌↔◌, IsTrue, is_some}
 use Rattle.xc_action.specs.World.{World}
-use Rattle.xc_isa.specs.Machine.{Slot, Empty, Live, HasQuit}
+use Rattle.xc_isa.specs.Machine.{Empty, HasQuit}
 use Rattle.xc_machine.specs.declared.stream.Stream.{Stream}
 use Rattle.xc_machine.specs.Shows.{slot_of}
 

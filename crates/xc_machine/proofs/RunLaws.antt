@@ -1,6 +1,5 @@
 -- A run goes on by one step.
-use Rattle.std.proofs.Common.{◌≡◌, ℕ, zero, suc, ◌+◌, List, [], ◌∷◌, ◌++◌, refl, sym, ap, ◌∙◌, subst}
-use Rattle.std.specs.Prelude.{replicate}
+use Rattle.std.proofs.Common.{◌≡◌, ℕ, zero, suc, List, [], ◌∷◌, ◌++◌, refl, ap, ◌∙◌}
 use Rattle.xc_isa.specs.declared.instr.Code.{Code}
 use Rattle.xc_isa.specs.Machine.{State, After, At, Trap, NoRun, step, onward, run}
 use Rattle.xc_machine.specs.Answers.{turns}

@@ -1,5 +1,5 @@
 -- What a change of the memory shows.
-use Rattle.std.proofs.Common.{◌≡◌, ℕ, zero, suc, ◌+◌, ◌*◌, ◌^◌, List, [], ◌∷◌, Option, Some, None, Bool, true, false, cond, refl, sym, ap, ◌∙◌, subst}
+use Rattle.std.proofs.Common.{◌≡◌, ℕ, zero, suc, ◌*◌, ◌^◌, List, [], ◌∷◌, Option, Some, None, refl, sym, ap, ◌∙◌, subst}
 use mathlib.Core.Path.{fun_ext}
 use Rattle.std.specs.Prelude.{slice_get, slice_set, replicate, unwrap_or}
 use Rattle.std.specs.Option.{option_map, option_and_then}
@@ -7,12 +7,10 @@ use Rattle.std.specs.FinMap.{get, insert, remove}
 use Rattle.xc_word.specs.declared.memory.Access.{Access}
 use Rattle.xc_word.specs.declared.memory.Place.{Place}
 use Rattle.xc_word.specs.declared.memory.Cell.{Cell}
-use Rattle.xc_word.specs.declared.memory.Applied.{Applied}
-use Rattle.xc_word.specs.declared.memory.Applied.TheVariants.{Done, Blocked, Bad}
-use Rattle.xc_word.specs.Cells.{Segments, cell_at, put_in, put_cell, fresh}
+use Rattle.xc_word.specs.Cells.{Segments, cell_at, put_in, fresh}
 use Rattle.xc_word.specs.Table.{on_cell, outcome, answer_of, left_by}
 use Rattle.xc_word.proofs.Maps.{assign, get-assign_same, get-assign_other}
-use Rattle.xc_action.specs.World.{Segs, World, Reach, New, Free, On, Reply, Got, Dead, put, left_in, reached, made, freed, put_back, with_out, serve}
+use Rattle.xc_action.specs.World.{Reach, New, Free, On, Got, Dead, put, left_in, reached, freed, put_back, with_out, serve}
 use Rattle.xc_action.proofs.Puts.{by_same, put_at, put_other, put_same}
 use Rattle.xc_machine.specs.Shows.{segs_in, world_in}
 use Rattle.xc_machine.specs.Answers.{Serves}

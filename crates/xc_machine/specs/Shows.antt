@@ -1,9 +1,9 @@
 -- The machine's fields as a state of the definition.
-use Rattle.std.specs.Prelude.{ℕ, List, [], ◌∷◌, Option, Some, None, unwrap_or}
+use Rattle.std.specs.Prelude.{ℕ, List, [], Option, Some, None, unwrap_or}
 use Rattle.std.specs.FinMap.{get}
 use Rattle.xc_word.specs.Cells.{Segments}
 use Rattle.xc_action.specs.World.{Segs, World}
-use Rattle.xc_isa.specs.Machine.{Slot, Empty, Live, State}
+use Rattle.xc_isa.specs.Machine.{Slot, Empty, Live}
 use Rattle.xc_machine.specs.declared.stream.Stream.{Stream}
 use Rattle.xc_machine.specs.Registers.{regs_of}
 

@@ -1,5 +1,4 @@
 -- An effect on the stream of slot 0.
-use Rattle.std.specs.Prelude.{ℕ}
 use Rattle.xc_isa.specs.Effects.{Effect}
 use Rattle.xc_isa.specs.Machine.{State, After, takes}
 
