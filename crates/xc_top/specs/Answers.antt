@@ -1,5 +1,5 @@
 -- Why the top call answers as it does, and what it writes.
-use Rattle.std.specs.Prelude.{◌≡◌, ◌<◌, ◌≤◌, ◌+◌, ◌^◌, ◌⊎◌, ℕ, List, [], Option, Some, None, length, take, SomeIndex}
+use Rattle.std.specs.Prelude.{◌≡◌, ◌<◌, ◌≤◌, ◌+◌, ◌^◌, ◌⊎◌, ℕ, List, [], Option, Some, None, length, take, IfSome, SomeIndex}
 use Rattle.xc_edge.specs.Counts.{Rises}
 use Rattle.xc_edge.specs.Gained.{gained}
 use Rattle.xc_meaning.specs.Programs.{Program}
@@ -29,10 +29,9 @@ pub record SinkSeen : Type 0 where
   pub faults_before : ℕ
   pub faults_after : ℕ
 
--- where files are told, the file is there, and this holds of its bytes
-abbrev pub Told : Option (List ℕ → Option (List ℕ)) → List ℕ → (List ℕ → Type 0) → Type 0
-Told None name P = Unit {0}
-Told (Some files) name P = (text : List ℕ) × (files name ≡ Some text) × P text
+-- where files are told, no fetch of the file failed, it is there, and this holds of its bytes
+abbrev pub Told : ShelfSeen → List ℕ → (List ℕ → Type 0) → Type 0
+Told shelf name P = IfSome shelf.files (λ file_of. (shelf.faults_after name ≡ shelf.faults_before name) × (text : List ℕ) × (file_of name ≡ Some text) × P text)
 
 -- ---- sinks
 
@@ -51,7 +50,7 @@ Part text s = Rises 1 s.faults_before s.faults_after × SomeIndex text (λ n. s.
 -- the file's text is narrow, and its program's code has run to its end
 pub record Worked (name : List ℕ) (shelf : ShelfSeen) (numbers : Numbers) (out : List ℕ) : Type 0 where
   pub program : Program
-  pub text : Told shelf.files name (λ text. (length text ≤ source_limit) × (narrow text ≡ Some program))
+  pub text : Told shelf name (λ text. (length text ≤ source_limit) × (narrow text ≡ Some program))
   pub ran : Ran program numbers.steps out
   pub streams : numbers.streams ≡ 1
 
@@ -61,8 +60,8 @@ Cause file shelf out (Ok numbers) = (name : List ℕ) × (file ≡ Some name) ×
 Cause file shelf out (ReadFault name) = (file ≡ Some name) × Rises 1 (shelf.faults_before name) (shelf.faults_after name)
 Cause file shelf out WriteFault = ⊥
 Cause file shelf out Usage = file ≡ None
-Cause file shelf out (Long name) = (file ≡ Some name) × Rises (source_limit + 1) shelf.taken_before shelf.taken_after × Told shelf.files name (λ text. source_limit < length text)
-Cause file shelf out (Refused name kind at) = (file ≡ Some name) × (at.line ≡ 1) × (at.col ≡ 1) × Told shelf.files name (λ text. (length text ≤ source_limit) × (narrow text ≡ None))
+Cause file shelf out (Long name) = (file ≡ Some name) × Rises (source_limit + 1) shelf.taken_before shelf.taken_after × Told shelf name (λ text. source_limit < length text)
+Cause file shelf out (Refused name kind at) = (file ≡ Some name) × (at.line ≡ 1) × (at.col ≡ 1) × Told shelf name (λ text. (length text ≤ source_limit) × (narrow text ≡ None))
 Cause file shelf out NoMemory = Unit {0}
 
 -- the line of the status on err, or a proper prefix of it where a put failed; out is left alone
