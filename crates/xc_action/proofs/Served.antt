@@ -1,10 +1,10 @@
 -- What the world answers, by what is at the place.
-use Rattle.std.proofs.Common.{◌≡◌, ℕ, List, [], ◌∷◌, Option, Some, refl, sym, ap, ◌∙◌}
+use Rattle.std.proofs.Common.{◌≡◌, ℕ, List, [], ◌∷◌, Some, ap, ◌∙◌}
 use Rattle.std.specs.Prelude.{slice_get, slice_set}
 use Rattle.xc_word.specs.declared.memory.Access.{Access}
 use Rattle.xc_word.specs.declared.memory.Cell.{Cell}
 use Rattle.xc_word.specs.Table.{on_cell}
-use Rattle.xc_action.specs.World.{Segs, World, Reach, Free, On, Reply, Got, put, left_in, reached, freed, put_back, with_out, serve}
+use Rattle.xc_action.specs.World.{Segs, World, Reach, Free, On, Got, put, left_in, reached, freed, put_back, with_out, serve}
 
 -- an access at a cell that it need not wait for
 pub serve_reach : (act : Access) (num v : ℕ) (w : World) (xs : List Cell) (c d : Cell) → w.segs act.place.seg ≡ xs → slice_get xs act.place.off ≡ Some c → on_cell act.kind act.value c ≡ Some (v, d)

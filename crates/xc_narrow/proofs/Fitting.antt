@@ -1,12 +1,12 @@
 -- The program of a narrow text fits.
-use Rattle.std.proofs.Common.{◌≡◌, ℕ, suc, ◌<◌, ◌≤◌, List, [], ◌∷◌, length, Result, Ok, Err, IfOk, Option, Some, None, Bool, true, false, refl, sym, ap, ◌∙◌, arith}
-use Rattle.std.specs.Prelude.{◌==◌, ◌&&◌, IsTrue, max}
+use Rattle.std.proofs.Common.{◌≡◌, ℕ, ◌<◌, ◌≤◌, List, [], ◌∷◌, Result, Ok, Err, IfOk, Option, Some, None, Bool, true, false, refl, ap, arith}
+use Rattle.std.specs.Prelude.{◌&&◌, IsTrue}
 use Rattle.std.specs.Option.{option_map}
 use Rattle.std.proofs.lemmas.Bool.{eqb-true}
 use Rattle.xc_format.specs.Pieces.{pieces_of, conversions_of}
 use Rattle.xc_meaning.specs.Programs.{Expr, Stmt}
 use Rattle.xc_gen.specs.Emitted.{NamesBelow, waiting_in, Fits}
-use Rattle.xc_gen.specs.Faithful.{size_of, largest}
+use Rattle.xc_gen.specs.Faithful.{size_of}
 use Rattle.xc_narrow.specs.declared.words.Conversion.TheVariants.{Outside}
 use Rattle.xc_narrow.specs.Words.{is_plain_from, is_one, prints_one}
 use Rattle.xc_narrow.specs.Grammar.{program}

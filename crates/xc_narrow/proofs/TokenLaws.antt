@@ -6,7 +6,6 @@ use Rattle.std.proofs.Math.Seq.{take-length}
 use Rattle.std.specs.Option.{option_map}
 use Rattle.xc_narrow.specs.declared.lex.Token.{Token}
 use Rattle.xc_narrow.specs.declared.lex.Front.{Front}
-use Rattle.xc_narrow.specs.declared.lex.Front.TheVariants.{End, Blank, Whole, Bad}
 use Rattle.xc_narrow.specs.Tokens.{front_of, then_tokens, tokens_in}
 
 -- the tokens so far, before more

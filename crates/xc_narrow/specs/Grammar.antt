@@ -1,11 +1,9 @@
 -- The grammar of a narrow text over its tokens:
 --   text = "int" NAME ";" "int" "main" "(" ")" "{" NAME "=" sum ";" "printf" "(" STRING "," NAME ")" ";" ["return" NUMBER ";"] "}"
 --   sum  = prod {("+" | "-") prod}    prod = prim {"*" prim}    prim = NAME | NUMBER | "(" sum ")"
-use Rattle.std.specs.Prelude.{ℕ, zero, suc, ◌+◌, ◌==◌, ◌&&◌, ◌||◌, Bool, true, false, not, nat_le, max, codes, List, [], ◌∷◌, Option, Some, None, length, if◌then◌else◌}
+use Rattle.std.specs.Prelude.{ℕ, zero, suc, ◌+◌, ◌==◌, Bool, false, nat_le, max, codes, List, [], ◌∷◌, Option, Some, None, length, if◌then◌else◌}
 use Rattle.std.specs.Option.{option_map, option_and_then}
 use Rattle.std.specs.Str.{bytes_eq}
-use Rattle.std.specs.List.{list_any}
-use Rattle.xc_format.specs.Pieces.{pieces_of, conversions_of}
 use Rattle.xc_meaning.specs.declared.tree.BinaryOp.{BinaryOp}
 use Rattle.xc_meaning.specs.declared.tree.BinaryOp.TheVariants.{Add, Subtract, Multiply}
 use Rattle.xc_meaning.specs.Programs.{Expr, Number as NumberExpr, Global, Binary, Stmt, Assign, Print, Return, Program}

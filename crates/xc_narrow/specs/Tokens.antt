@@ -1,8 +1,6 @@
 -- The tokens of a narrow text, a part of those of C99 6.4: no comment, no directive, and of the operators + - * and =.
-use Rattle.std.specs.Prelude.{ℕ, zero, suc, ◌+◌, ◌-◌, ◌*◌, ◌^◌, ◌==◌, ◌≤◌, ◌&&◌, ◌||◌, Bool, true, false, nat_lt, nat_le, codes, List, [], ◌∷◌, ◌++◌, Option, Some, None, length, take, drop, if◌then◌else◌}
+use Rattle.std.specs.Prelude.{ℕ, zero, suc, ◌+◌, ◌-◌, ◌*◌, ◌^◌, ◌==◌, ◌≤◌, ◌&&◌, ◌||◌, Bool, true, false, nat_lt, nat_le, List, [], ◌∷◌, ◌++◌, Option, Some, None, length, take, drop, if◌then◌else◌}
 use Rattle.std.specs.Option.{option_map}
-use Rattle.std.specs.Str.{bytes_eq}
-use Rattle.std.specs.List.{list_any}
 use Rattle.xc_narrow.specs.declared.lex.Token.{Token}
 use Rattle.xc_narrow.specs.declared.lex.Token.TheVariants.{Word, Number, Text, Mark}
 use Rattle.xc_narrow.specs.declared.lex.Front.{Front}

@@ -1,12 +1,11 @@
 -- How many ticks the source runs of a program have.
-use Rattle.std.proofs.Common.{◌≡◌, ℕ, zero, suc, ◌+◌, ◌≤◌, List, [], ◌∷◌, ◌++◌, length, true, false, cond, refl, sym, ap, ◌∙◌, subst, arith}
-use Rattle.std.specs.Prelude.{◌==◌}
+use Rattle.std.proofs.Common.{◌≡◌, ℕ, zero, suc, ◌+◌, ◌≤◌, List, [], ◌∷◌, ◌++◌, length, cond, refl, sym, ap, ◌∙◌, arith}
 use Rattle.xc_action.specs.World.{Request, On, Print as Shows, Stop, Tick, Reply, Got, Dead, Action, act_of, tick}
 use Rattle.xc_action.specs.Runs.{part_of, ticks_in, ticks}
 use Rattle.xc_action.proofs.Puts.{eqb_same, eqb_other}
 use Rattle.xc_meaning.specs.Programs.{Expr, Number, Global, Binary, Stmt, Assign, Print, Return, Program}
 use Rattle.xc_meaning.specs.Meaning.{Value, Gives, Traps, Cuts, Outcome, Done, Returned, Trapped, Waits, Late, ask, then_value, with_value, then_do, value_of, ticked, asked, meaning, in_order, ended, called, trace_of}
-use Rattle.xc_meaning.specs.Source.{SourceRun, replies_of}
+use Rattle.xc_meaning.specs.Source.{replies_of}
 use Rattle.xc_gen.specs.Faithful.{TicksAtMost}
 
 abbrev ticks_of : List Action → ℕ

@@ -1,13 +1,12 @@
 -- What follows for the machine's run of a program's code.
-use Rattle.std.proofs.Common.{◌≡◌, ◌⊎◌, ℕ, zero, suc, ◌+◌, ◌*◌, ◌^◌, ◌<◌, ◌≤◌, List, [], ◌∷◌, length, refl, sym, ap, ◌∙◌, subst, arith, inl, inr}
-use Rattle.std.specs.Prelude.{replicate}
+use Rattle.std.proofs.Common.{◌≡◌, ◌⊎◌, ℕ, zero, suc, ◌≤◌, [], ◌∷◌, refl, arith, inl, inr}
 use Rattle.std.proofs.lemmas.List.{length-replicate}
 use Rattle.xc_action.specs.World.{World}
 use Rattle.xc_meaning.specs.Programs.{Program}
 use Rattle.xc_isa.specs.declared.instr.Code.{Code}
 use Rattle.xc_isa.specs.declared.instr.TrapKind.{TrapKind}
 use Rattle.xc_isa.specs.Machine.{State, Slot, At, Trap, NoRun, run, step, start, HasQuit}
-use Rattle.xc_gen.specs.Faithful.{Faithful, Ends, GoesOn, largest, step_bound}
+use Rattle.xc_gen.specs.Faithful.{Faithful, Ends, GoesOn}
 use Rattle.xc_machine.specs.Answers.{turns}
 use Rattle.xc_narrow.specs.Views.{IsSmall}
 use Rattle.xc_top.specs.Ran.{Ran}

@@ -1,5 +1,5 @@
 -- The command line: `run FILE`.
-use Rattle.std.specs.Prelude.{ℕ, ◌==◌, ◌&&◌, Bool, true, false, not, codes, List, [], ◌∷◌, Option, Some, None, map, string_bytes, if◌then◌else◌, String}
+use Rattle.std.specs.Prelude.{ℕ, ◌==◌, ◌&&◌, Bool, false, not, codes, List, [], ◌∷◌, Option, Some, None, if◌then◌else◌}
 use Rattle.std.specs.Str.{bytes_eq}
 
 -- a name is not empty and does not begin with a minus sign

@@ -1,5 +1,5 @@
 -- What the top call writes to err.
-use Rattle.std.specs.Prelude.{ℕ, List, [], ◌∷◌, ◌++◌, codes, decimal}
+use Rattle.std.specs.Prelude.{ℕ, List, [], ◌++◌, codes, decimal}
 use Rattle.xc_top.specs.declared.status.FileKind.{FileKind}
 use Rattle.xc_top.specs.declared.status.FileKind.TheVariants.{Unbuilt}
 use Rattle.xc_top.specs.declared.status.Status.{Status}

@@ -1,11 +1,11 @@
 -- What there is to say and to write, before any of it is written.
-use Rattle.std.specs.Prelude.{◌≡◌, ◌≤◌, ℕ, List, [], Option, Some, None, length, string_bytes}
+use Rattle.std.specs.Prelude.{◌≡◌, ℕ, List, [], Option, Some, None, string_bytes}
 use Rattle.xc_meaning.specs.Programs.{Program}
 use Rattle.xc_narrow.specs.Grammar.{narrow}
 use Rattle.xc_top.specs.declared.answer.Plan.{Plan}
 use Rattle.xc_top.specs.declared.answer.Plan.TheVariants as plan
 use Rattle.xc_top.specs.declared.status.Status.{Status}
-use Rattle.xc_top.specs.declared.status.Status.TheVariants.{Ok, ReadFault, WriteFault, Usage, Long, Refused, NoMemory}
+use Rattle.xc_top.specs.declared.status.Status.TheVariants.{Ok, Refused}
 use Rattle.xc_top.specs.Lines.{line_of}
 use Rattle.xc_top.specs.Ran.{Ran}
 use Rattle.xc_top.specs.Answers.{ShelfSeen, Cause, IsSaid}

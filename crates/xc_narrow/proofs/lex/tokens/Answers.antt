@@ -1,4 +1,4 @@
-use Rattle.std.proofs.Common.{◌≡◌, ◌+◌, ◌-◌, suc, ap, ◌∙◌, sym, length, arith, length-append, List, [], ◌∷◌, ◌++◌, drop, Some, None, ℕ, Bor}
+use Rattle.std.proofs.Common.{◌≡◌, ◌+◌, ◌-◌, suc, ap, ◌∙◌, sym, length, arith, length-append, List, [], ◌∷◌, ◌++◌, drop, ℕ, Bor}
 use Rattle.xc_narrow.specs.Tokens.{then_tokens, tokens_in, tokens_of}
 use Rattle.xc_narrow.proofs.TokenLaws.{after, turn, pushed, begun, part_from}
 use Rattle.xc_narrow.proofs.lex.tokens.Goals.{in-Blank, in-Whole+in_ok-push-in-Whole}
