@@ -1,16 +1,18 @@
 -- Lists of actions of threads that the memory and the output allow.
 use Rattle.std.specs.Prelude.{◌≡◌, ℕ, suc, ◌<◌, ◌==◌, List, [], ◌∷◌, ◌++◌, Some, if◌then◌else◌}
-use Rattle.xc_action.specs.World.{World, Request, On, Print, Stop, Tick, Reply, Dead, Action, act_of, serve}
+use Rattle.xc_action.specs.World.{World, Request, On, Print, Begin, Stop, Tick, Reply, Got, Dead, Action, act_of, serve}
 
 -- one thread's actions
-abbrev pub part_of : ℕ → List (ℕ × Action) → List Action
+abbrev pub part_of : {X : Type 0} → ℕ → List (ℕ × X) → List X
 part_of s [] = []
 part_of s ((i, a) ∷ l) = if i == s then a ∷ part_of s l else part_of s l
 
--- the world gives this reply and is left so; a tick asks nothing of it
+-- the world gives this reply and is left so; a start and a tick ask nothing of it, and a start is no trap
 abbrev pub Allows : Request → Reply → ℕ → World → World → Type 0
 Allows (On x) a num w w' = serve (On x) num w ≡ Some (a, w')
 Allows (Print bytes) a num w w' = serve (Print bytes) num w ≡ Some (a, w')
+Allows (Begin at arg) Dead num w w' = ⊥
+Allows (Begin at arg) (Got v) num w w' = w ≡ w'
 Allows Stop a num w w' = serve Stop num w ≡ Some (a, w')
 Allows Tick a num w w' = w ≡ w'
 
@@ -27,6 +29,7 @@ HasTrapped l = (front : List (ℕ × Action)) × (s : ℕ) × (q : Request) × (
 abbrev pub ticks_in : Request → ℕ → ℕ
 ticks_in (On x) n = n
 ticks_in (Print bytes) n = n
+ticks_in (Begin at arg) n = n
 ticks_in Stop n = n
 ticks_in Tick n = suc n
 

@@ -20,10 +20,12 @@ pub data Touch : Type 0 where
   New : (cells : ℕ) → Touch
   Free : (seg : ℕ) → Touch
 
--- what a thread asks: a touch of the memory, bytes to be printed, its own trap, or nothing (a statement, a loop test or a call begins)
+-- what a thread asks: a touch of the memory, bytes to be printed, that another one starts at a place with a word, its own trap, or
+-- nothing (a statement, a loop test or a call begins)
 pub data Request : Type 0 where
   On : (x : Touch) → Request
   Print : (bytes : List ℕ) → Request
+  Begin : (at arg : ℕ) → Request
   Stop : Request
   Tick : Request
 
@@ -86,10 +88,12 @@ abbrev pub with_out : Option (Reply × Segs) → List ℕ → Option (Reply × W
 with_out None out = None
 with_out (Some (a, m)) out = Some (a, record { segs = m; out = out })
 
--- what the world answers to a request, and the world after it; none where the request has to wait
+-- what the world answers to a request, and the world after it; none where the request has to wait, and of a start, which is not
+-- the world's to answer
 abbrev pub serve : Request → ℕ → World → Option (Reply × World)
 serve (On x) num w = with_out (touched x num w.segs) w.out
 serve (Print bytes) num w = Some (Got 0, record { segs = w.segs; out = w.out ++ bytes })
+serve (Begin at arg) num w = None
 serve Stop num w = Some (Dead, w)
 serve Tick num w = Some (Got 0, w)
 

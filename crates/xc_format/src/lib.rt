@@ -20,7 +20,7 @@ pub enum Piece {
 
 /// How much of a conversion has been read.
 #[derive(Clone, Copy, Debug, PartialEq, Eq)]
-enum Reading {
+pub enum Reading {
     Text,
     Percent,
     Long,
@@ -29,7 +29,7 @@ enum Reading {
 
 /// What one more byte of a format makes.
 #[derive(Clone, Copy, Debug, PartialEq, Eq)]
-enum Step {
+pub enum Step {
     Gives(Piece),
     Reads(Reading),
     Wrong,

@@ -17,16 +17,16 @@ use Rattle.xc_meaning.specs.declared.tree.BinaryOp.{BinaryOp}
 use Rattle.xc_meaning.specs.declared.tree.BinaryOp.TheVariants.{Add, Subtract, Multiply}
 use Rattle.xc_meaning.specs.Programs.{Expr, Number, Global, Binary, Stmt, Assign, Print, Return}
 use Rattle.xc_meaning.specs.Meaning.{binary_of}
-use Rattle.xc_isa.specs.declared.instr.Code.{Code}
+use Rattle.xc_isa.specs.declared.code.Code.{Code}
 use Rattle.xc_isa.specs.declared.instr.LoadKind.TheVariants.{Ld}
 use Rattle.xc_isa.specs.declared.instr.StoreKind.TheVariants.{St}
 use Rattle.xc_isa.specs.declared.instr.Instr.{Instr}
 use Rattle.xc_isa.specs.declared.instr.Instr.TheVariants as instr
-use Rattle.xc_isa.specs.Effects.{Regs, Asks, binary, read, prints, printed_regs, effect}
-use Rattle.xc_isa.specs.Machine.{Live, last_after}
+use Rattle.xc_isa.specs.Words.{binary}
+use Rattle.xc_isa.specs.Effects.{Regs, Asks, read, prints, printed_regs, effect}
+use Rattle.xc_isa.specs.Machine.{Live, last_after, words_up_to}
 use Rattle.xc_isa.proofs.Follows.{HasAt, behind, behind_append, has_front, has_back, Conf, conf, Goes_to, Follows, follows_on, goes, asks, at_base, reaches_base}
 use Rattle.xc_gen.specs.Emitted.{frame_cells, operation_of, pointer_to, most_globals, expr_code, assign_code, print_code, body_code, waiting_in, NamesBelow, FitsExpr, FitsBody, PrintsOne, PrintsFit}
-use Rattle.xc_gen.specs.Faithful.{words_of}
 use Rattle.xc_gen.proofs.Model.{eval, line_of, env_after, out_after, globals_with}
 use Rattle.xc_gen.proofs.Traces.{global_is, write_is}
 
@@ -85,15 +85,15 @@ one_at n k env = at (nat_lt k n)
     at true = omega arith
     at false = omega arith
 
-pub globals_few : (n k : ℕ) (env : ℕ → ℕ) → words_of (globals_with n env) k ≤ k
+pub globals_few : (n k : ℕ) (env : ℕ → ℕ) → words_up_to (globals_with n env) k ≤ k
 globals_few n zero env = omega arith
 globals_few n (suc k) env = omega (arith, globals_few n k env, one_at n k env)
 
-words_below : (m : Segs) (g k : ℕ) (xs : List Cell) → k < g → words_of (put m g xs) k ≡ words_of m k
+words_below : (m : Segs) (g k : ℕ) (xs : List Cell) → k < g → words_up_to (put m g xs) k ≡ words_up_to m k
 words_below m g zero xs lt = ap length (put_other m g zero xs (λ e. absurd (omega (arith, e))))
-words_below m g (suc k) xs lt = ap (λ a. a + length (put m g xs (suc k))) (words_below m g k xs (omega arith)) ∙ ap (λ l. words_of m k + length l) (put_other m g (suc k) xs (λ e. absurd (omega (arith, e))))
+words_below m g (suc k) xs lt = ap (λ a. a + length (put m g xs (suc k))) (words_below m g k xs (omega arith)) ∙ ap (λ l. words_up_to m k + length l) (put_other m g (suc k) xs (λ e. absurd (omega (arith, e))))
 
-pub words_with : (n : ℕ) (env : ℕ → ℕ) (out : List ℕ) (frame : List Cell) → words_of (world_with n env out frame).segs (suc n) ≤ n + length frame
+pub words_with : (n : ℕ) (env : ℕ → ℕ) (out : List ℕ) (frame : List Cell) → words_up_to (world_with n env out frame).segs (suc n) ≤ n + length frame
 words_with n env out frame =
     omega (arith, words_below (globals_with n env) (suc n) n frame (omega arith), globals_few n n env, ap length (frame_at n env out frame))
 
@@ -124,7 +124,7 @@ drop_one (x ∷ xs) = xs
 
 -- no more words are live than the globals and the frame
 abbrev pub IsSmall : ℕ → Conf → Type 0
-IsSmall n c = words_of c.world.segs c.last ≤ n + frame_cells
+IsSmall n c = words_up_to c.world.segs c.last ≤ n + frame_cells
 
 module _ (code : Code) (n : ℕ) where
   abbrev pub at_place : ℕ → Regs → (ℕ → ℕ) → List ℕ → List Cell → Conf

@@ -7,7 +7,7 @@ use Rattle.xc_word.specs.declared.memory.Kind.TheVariants.{ReadXx, WriteXf}
 use Rattle.xc_word.specs.declared.memory.Cell.{Cell}
 use Rattle.xc_word.specs.Cells.{fresh}
 use Rattle.xc_word.specs.Table.{full_with}
-use Rattle.xc_action.specs.World.{World, Reach, Request, On, Print as Shows, Stop, Tick, Reply, Got, Action, put, tick, segs_of, world_of, serve}
+use Rattle.xc_action.specs.World.{World, Reach, Request, On, Print as Shows, Begin, Stop, Tick, Reply, Got, Action, put, tick, segs_of, world_of, serve}
 use Rattle.xc_action.specs.Runs.{part_of, Applies, ticks}
 use Rattle.xc_action.proofs.Puts.{put_same, put_at, put_other, by_same, eqb_other}
 use Rattle.xc_action.proofs.Served.{serve_reach, same_world}
@@ -22,6 +22,7 @@ use Rattle.xc_gen.proofs.Model.{eval, write_act, print_act, reads, line_of, env_
 front : (q : Request) (a : Reply) (rs ss : List Reply) → reply_and q a (rs ++ ss) ≡ reply_and q a rs ++ ss
 front (On x) a rs ss = refl
 front (Shows bytes) a rs ss = refl
+front (Begin at arg) a rs ss = refl
 front Stop a rs ss = refl
 front Tick a rs ss = refl
 

@@ -1,5 +1,5 @@
 -- The whole code of a program, and what follows for all of its runs.
-use Rattle.std.proofs.Common.{◌≡◌, ℕ, zero, suc, ◌+◌, ◌*◌, ◌^◌, ◌≤◌, List, [], ◌∷◌, ◌++◌, length, Some, refl, sym, ap, ◌∙◌, subst, arith, inl, inr, length-append}
+use Rattle.std.proofs.Common.{map, ◌≡◌, ℕ, zero, suc, ◌+◌, ◌*◌, ◌^◌, ◌≤◌, List, [], ◌∷◌, ◌++◌, length, Some, refl, sym, ap, ◌∙◌, subst, arith, inl, inr, length-append}
 use Rattle.std.specs.Prelude.{◌⊎◌, replicate}
 use Rattle.std.proofs.Math.Nat.{suc-mul, mul_comm}
 use Rattle.std.proofs.lemmas.Nat.{mul-le}
@@ -11,13 +11,16 @@ use Rattle.xc_action.proofs.Puts.{put_same, put_put, put_at}
 use Rattle.xc_action.proofs.Served.{serve_free, same_world}
 use Rattle.xc_meaning.specs.Programs.{Expr, Number, Global, Binary, Stmt, Assign, Print, Return, Program}
 use Rattle.xc_meaning.specs.Source.{first_globals, SourceRun, HasEnded}
-use Rattle.xc_isa.specs.declared.instr.Code.{Code}
+use Rattle.xc_isa.specs.declared.code.Code.{Code}
 use Rattle.xc_isa.specs.declared.instr.TrapKind.{TrapKind}
 use Rattle.xc_isa.specs.declared.instr.Instr.TheVariants as instr
-use Rattle.xc_isa.specs.Machine.{State, Slot, Empty, Live, At, Trap, run, step, start, HasQuit}
+use Rattle.xc_isa.specs.Machine as machine
+use Rattle.xc_isa.specs.Machine.{State, Slot, Empty, Live, step, start, HasQuit, live_words, words_up_to}
+use Rattle.xc_isa.specs.Texts.{cells_of}
+use Rattle.xc_isa.specs.Runs.{At, Trap, run}
 use Rattle.xc_isa.proofs.Follows.{HasAt, behind, has_front, has_back, has_all, Conf, conf, state_of, Goes_to, Follows, follows_on, goes, asks, quits, frees_base, IsWithin, within, free_slots}
-use Rattle.xc_gen.specs.Emitted.{frame_cells, expr_code, body_code, enter_code, leave_code, whole_code, PrintsFit, Fits}
-use Rattle.xc_gen.specs.Faithful.{SameResult, Faithful, size_of, largest, TicksAtMost, words_of, live, step_bound, word_bound, Ends, GoesOn}
+use Rattle.xc_gen.specs.Emitted.{frame_cells, expr_code, body_code, enter_code, leave_code, whole_code, PrintsFit, one_cell, globals_of, Fits}
+use Rattle.xc_gen.specs.Faithful.{SameResult, Faithful, size_of, largest, TicksAtMost, step_bound, word_bound, Ends, GoesOn}
 use Rattle.xc_gen.proofs.Model.{env_after, out_after, globals_with, source, of_main}
 use Rattle.xc_gen.proofs.Traces.{above_is, first_is, whole_trace, last_world, has_run, has_ended, begun, ticks_whole}
 use Rattle.xc_gen.proofs.Paths.{world_with, globals_few, IsSmall, at_place, Sits, small, body_runs}
@@ -39,6 +42,16 @@ body_length (Return e ∷ ss) t le = omega (arith, expr_length e 0)
 whole_length : (ss : List Stmt) → length (whole_code ss) ≤ begun ss * (3 * largest ss + 3) + 4
 whole_length ss = simp length-append (omega (arith, body_length ss (largest ss) (omega arith)))
 
+-- where no expression is larger than t
+pub code_length : (ss : List Stmt) (t : ℕ) → largest ss ≤ t → length (whole_code ss) ≤ length ss * (3 * t + 3) + 4
+code_length ss t le = simp length-append (omega (arith, body_length ss t le, mul-le (begun ss) (3 * t + 3) (length ss) (3 * t + 3) (few ss) (omega arith)))
+  where
+    few : (ss : List Stmt) → begun ss ≤ length ss
+    few [] = omega arith
+    few (Assign g e ∷ ss) = omega (arith, few ss)
+    few (Print f e ∷ ss) = omega (arith, few ss)
+    few (Return e ∷ ss) = omega arith
+
 in_time : (k t streams n : ℕ) → suc k ≤ n → 1 ≤ streams → k * (3 * t + 3) + 4 ≤ step_bound t streams n
 in_time k t streams n le one =
     let c = 64 * (t + streams + 1) in
@@ -59,7 +72,7 @@ small_source n k slot env out le = omega (arith, globals_few n k env)
 abbrev no_values : ℕ → ℕ
 no_values x = 0
 
-module _ (p : Program) (code : Code) (fits : Fits p) (globals : code.globals ≡ p.globals) (formats : code.formats ≡ p.formats) (instrs : code.instrs ≡ whole_code p.body) where
+module _ (p : Program) (code : Code) (fits : Fits p) (globals : code.globals ≡ globals_of p.globals) (formats : code.formats ≡ p.formats) (instrs : code.instrs ≡ whole_code p.body) where
   abbrev first_conf : Conf
   first_conf = conf (Live 0 no_values) (source p.globals no_values []) p.globals
 
@@ -109,9 +122,15 @@ module _ (p : Program) (code : Code) (fits : Fits p) (globals : code.globals ≡
       follows_on code (IsSmall n) enter_code (body ++ leave_code) first_conf c2 last_conf enter
       (follows_on code (IsSmall n) body leave_code c2 c3 last_conf middle leave)
 
+  globals_are : (n : ℕ) → map cells_of (globals_of n) ≡ first_globals n
+  globals_are zero = refl
+  globals_are (suc n) = ap (λ l. (fresh ∷ []) ∷ l) (globals_are n)
+
   start_is : (others : ℕ) → start code (suc others) ≡ state_of others first_conf
   start_is others =
-      ap (λ g. record { slots = Live 0 no_values ∷ replicate others Empty; world = world_of (first_globals g); last = g }) globals
+      ap (λ g. record { slots = Live 0 no_values ∷ replicate others Empty; world = world_of (map cells_of g); last = length g }) globals
+      ∙ ap (λ g. record { slots = Live 0 no_values ∷ replicate others Empty; world = world_of g; last = length (globals_of p.globals) }) (globals_are p.globals)
+      ∙ ap (λ n. record { slots = Live 0 no_values ∷ replicate others Empty; world = world_of (first_globals p.globals); last = n }) (length-replicate p.globals one_cell)
       ∙ ap (λ w. record { slots = Live 0 no_values ∷ replicate others Empty; world = w; last = p.globals }) (first_is p.globals)
 
   runs_are : (others : ℕ) (ss : List ℕ) → IsWithin code (IsSmall p.globals) others (whole_code p.body) last_conf ss (run code ss (start code (suc others)))
@@ -140,19 +159,19 @@ module _ (p : Program) (code : Code) (fits : Fits p) (globals : code.globals ≡
       let enough = most (of_main (whole_trace p)) (last_world p) (has_run p fits.body) in
       omega (arith, h.3, whole_length p.body, in_time (begun p.body) (largest p.body) (suc others) n (omega (arith, enough, ticks_whole p)) one)
 
-  words_in : (streams : ℕ) → 1 ≤ streams → (ss : List ℕ) (st : State) → run code ss (start code streams) ≡ At st → live st ≤ word_bound p.globals (largest p.body) streams
+  words_in : (streams : ℕ) → 1 ≤ streams → (ss : List ℕ) (st : State) → run code ss (start code streams) ≡ At st → live_words st ≤ word_bound p.globals (largest p.body) streams
   words_in zero one ss st e = absurd (omega arith)
   words_in (suc others) one ss st e =
       let h = reached others ss st e in
-      omega (arith, h.2, ap (λ (s : State). words_of s.world.segs s.last) h.1, in_room p.globals (largest p.body) (suc others) one)
+      omega (arith, h.2, ap (λ (s : State). words_up_to s.world.segs s.last) h.1, in_room p.globals (largest p.body) (suc others) one)
 
-  goes_in : (streams : ℕ) → 1 ≤ streams → (ss : List ℕ) (st : State) → run code ss (start code streams) ≡ At st → HasQuit st ⊎ ((s : ℕ) × (after : State) × (step code s st ≡ At after))
+  goes_in : (streams : ℕ) → 1 ≤ streams → (ss : List ℕ) (st : State) → run code ss (start code streams) ≡ At st → HasQuit st ⊎ ((s : ℕ) × (after : State) × (step code s st ≡ machine.At after))
   goes_in zero one ss st e = absurd (omega arith)
   goes_in (suc others) one ss st e =
       let h = reached others ss st e in
       at h.0 h.1 h.5
     where
-      at : (m : Conf) → st ≡ state_of others m → ((m ≡ last_conf) ⊎ ((n : Conf) × Goes_to code m n)) → HasQuit st ⊎ ((s : ℕ) × (after : State) × (step code s st ≡ At after))
+      at : (m : Conf) → st ≡ state_of others m → ((m ≡ last_conf) ⊎ ((n : Conf) × Goes_to code m n)) → HasQuit st ⊎ ((s : ℕ) × (after : State) × (step code s st ≡ machine.At after))
       at m is (inl last) = inl (subst HasQuit (sym (is ∙ ap (state_of others) last)) (free_slots others (last_world p) (suc p.globals)))
       at m is (inr (n, go)) = inr (0, state_of others n, ap (step code 0) is ∙ go others)
 

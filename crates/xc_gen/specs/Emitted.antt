@@ -1,7 +1,10 @@
 -- The instructions that the generator makes of a program.
-use Rattle.std.specs.Prelude.{◌≡◌, ℕ, suc, ◌-◌, ◌*◌, ◌^◌, ◌<◌, ◌≤◌, List, [], ◌∷◌, ◌++◌, Some, slice_get, max}
+use Rattle.std.specs.Prelude.{◌≡◌, ℕ, suc, ◌-◌, ◌*◌, ◌^◌, ◌<◌, ◌≤◌, List, [], ◌∷◌, ◌++◌, Some, slice_get, replicate, max}
 use Rattle.std.specs.Option.{option_map}
 use Rattle.xc_format.specs.Pieces.{pieces_of, conversions_of}
+use Rattle.xc_word.specs.Cells.{fresh}
+use Rattle.xc_isa.specs.Texts.{HasText}
+use Rattle.xc_isa.specs.declared.code.Run.{Run}
 use Rattle.xc_isa.specs.declared.instr.BinaryOp.{BinaryOp as Operation}
 use Rattle.xc_isa.specs.declared.instr.BinaryOp.TheVariants.{Add as AddOf, Sub as SubOf, Mul as MulOf}
 use Rattle.xc_isa.specs.declared.instr.LoadKind.TheVariants.{Ld}
@@ -94,8 +97,16 @@ PrintsFit formats (Assign g e ∷ ss) = PrintsFit formats ss
 PrintsFit formats (Print f e ∷ ss) = PrintsOne formats f × PrintsFit formats ss
 PrintsFit formats (Return e ∷ ss) = PrintsFit formats ss
 
--- names and formats are there, and the frame has a cell for each value that waits
+-- each global is a cell that is full and 0
+abbrev pub one_cell : List Run
+one_cell = record { count = 1; cell = fresh } ∷ []
+
+abbrev pub globals_of : ℕ → List (List Run)
+globals_of n = replicate n one_cell
+
+-- names and formats are there, the frame has a cell for each value that waits, and the code has a text
 pub record Fits (p : Program) : Type 0 where
   pub few : p.globals ≤ most_globals
+  pub text : HasText (globals_of p.globals) p.formats [] (whole_code p.body)
   pub body : FitsBody p.globals p.body
   pub prints : PrintsFit p.formats p.body

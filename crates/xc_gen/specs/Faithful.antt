@@ -1,12 +1,14 @@
 -- What is promised of code: each of its runs stands for a source run, and ends in time.
-use Rattle.std.specs.Prelude.{◌≡◌, ◌⊎◌, ℕ, zero, suc, ◌+◌, ◌*◌, ◌≤◌, List, [], ◌∷◌, length, max}
-use Rattle.xc_action.specs.World.{Segs, World, Action}
+use Rattle.std.specs.Prelude.{◌≡◌, ◌⊎◌, ℕ, ◌+◌, ◌*◌, ◌≤◌, List, [], ◌∷◌, length, max}
+use Rattle.xc_action.specs.World.{World, Action}
 use Rattle.xc_action.specs.Runs.{HasTrapped, ticks}
 use Rattle.xc_meaning.specs.Programs.{Expr, Number, Global, Binary, Stmt, Assign, Print, Return, Program}
 use Rattle.xc_meaning.specs.Source.{SourceRun, HasEnded}
-use Rattle.xc_isa.specs.declared.instr.Code.{Code}
+use Rattle.xc_isa.specs.declared.code.Code.{Code}
 use Rattle.xc_isa.specs.declared.instr.TrapKind.{TrapKind}
-use Rattle.xc_isa.specs.Machine.{State, At, Trap, run, step, start, HasQuit}
+use Rattle.xc_isa.specs.Machine as machine
+use Rattle.xc_isa.specs.Machine.{State, step, start, HasQuit, live_words}
+use Rattle.xc_isa.specs.Runs.{At, Trap, run}
 
 -- the same output, and the same cells of the globals, values and states
 abbrev pub SameResult : ℕ → World → World → Type 0
@@ -42,14 +44,6 @@ largest (s ∷ ss) = max (stmt_size s) (largest ss)
 abbrev pub TicksAtMost : Program → ℕ → Type 0
 TicksAtMost p n = (l : List (ℕ × Action)) (v : World) → SourceRun p l v → ticks l ≤ n
 
--- the live words of the segments up to a number
-abbrev pub words_of : Segs → ℕ → ℕ
-words_of m zero = length (m zero)
-words_of m (suc n) = words_of m n + length (m (suc n))
-
-abbrev pub live : State → ℕ
-live st = words_of st.world.segs st.last
-
 -- the bound on steps, by what the largest expression, the streams and the ticks are
 abbrev pub step_bound : ℕ → ℕ → ℕ → ℕ
 step_bound t streams n = 64 * (t + streams + 1) * (n + 1)
@@ -62,9 +56,9 @@ word_bound globals t streams = globals + 16 * (t + 8) * (streams + 1) * 3
 pub record Ends (p : Program) (c : Code) : Type 0 where
   pub steps : (streams n : ℕ) → 1 ≤ streams → streams ≤ 1024 → TicksAtMost p n → (slots : List ℕ) (st : State) → run c slots (start c streams) ≡ At st → length slots ≤ step_bound (largest p.body) streams n
   pub steps_to_trap : (streams n : ℕ) → 1 ≤ streams → streams ≤ 1024 → TicksAtMost p n → (slots : List ℕ) (kind : TrapKind) → run c slots (start c streams) ≡ Trap kind → length slots ≤ step_bound (largest p.body) streams n
-  pub words : (streams : ℕ) → 1 ≤ streams → streams ≤ 1024 → (slots : List ℕ) (st : State) → run c slots (start c streams) ≡ At st → live st ≤ word_bound p.globals (largest p.body) streams
+  pub words : (streams : ℕ) → 1 ≤ streams → streams ≤ 1024 → (slots : List ℕ) (st : State) → run c slots (start c streams) ≡ At st → live_words st ≤ word_bound p.globals (largest p.body) streams
 
 -- In every state that a run reaches, all slots are free or some stream is ready; and no run traps.
 pub record GoesOn (c : Code) : Type 0 where
-  pub ready : (streams : ℕ) → 1 ≤ streams → streams ≤ 1024 → (slots : List ℕ) (st : State) → run c slots (start c streams) ≡ At st → HasQuit st ⊎ ((s : ℕ) × (after : State) × (step c s st ≡ At after))
+  pub ready : (streams : ℕ) → 1 ≤ streams → streams ≤ 1024 → (slots : List ℕ) (st : State) → run c slots (start c streams) ≡ At st → HasQuit st ⊎ ((s : ℕ) × (after : State) × (step c s st ≡ machine.At after))
   pub no_trap : (streams : ℕ) → 1 ≤ streams → streams ≤ 1024 → (slots : List ℕ) (kind : TrapKind) → run c slots (start c streams) ≡ Trap kind → ⊥

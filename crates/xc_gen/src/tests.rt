@@ -17,7 +17,7 @@ fn an_assignment_has_its_code(rt: HostRuntime) -> Result<(), Fail> {
         body,
     };
     let code = code_of(alloc, program)?;
-    assert_eq!(rt; code.globals, 1);
+    assert_eq!(rt; code.globals.len(), 1);
     assert_eq!(rt; code.instrs.len(), 11);
     Ok(())
 }

@@ -4,12 +4,14 @@ use Rattle.std.specs.Prelude.{◌==◌, ◌⊎◌, slice_get, replicate}
 use Rattle.std.proofs.lemmas.Bool.{lt-ltb}
 use Rattle.xc_word.specs.declared.memory.Kind.{Kind}
 use Rattle.xc_word.specs.declared.memory.Access.{Access}
-use Rattle.xc_action.specs.World.{World, Request, On, Reach, Free, Got, serve}
-use Rattle.xc_isa.specs.declared.instr.Code.{Code}
+use Rattle.xc_action.specs.World.{World, Request, On, Print, Begin, Stop, Tick, Reach, Free, Reply, Got, serve}
+use Rattle.xc_isa.specs.declared.code.Code.{Code}
 use Rattle.xc_isa.specs.declared.instr.Instr.{Instr}
 use Rattle.xc_isa.specs.declared.instr.TrapKind.TheVariants as trap
 use Rattle.xc_isa.specs.Effects.{Regs, Goes, Asks, Faults, Quits, reaches, frees, effect}
-use Rattle.xc_isa.specs.Machine.{Slot, Empty, Live, State, After, At, Trap, NoRun, last_after, with_slot, served, takes, in_slot, step, onward, run, HasQuit}
+use Rattle.xc_isa.specs.Machine as machine
+use Rattle.xc_isa.specs.Machine.{Slot, Empty, Live, State, After, Waits, Spent, last_after, with_slot, served, asks as asks_of, takes, in_slot, step, HasQuit}
+use Rattle.xc_isa.specs.Runs.{Ran, At, Trap, NoRun, onward, run}
 
 -- the instructions stand in the code from this place on
 abbrev pub HasAt : List Instr → ℕ → List Instr → Type 0
@@ -68,7 +70,7 @@ state_of others c = record { slots = c.slot ∷ replicate others Empty; world = 
 
 -- one step, whatever the number of the other slots
 abbrev pub Goes_to : Code → Conf → Conf → Type 0
-Goes_to code c d = (others : ℕ) → step code 0 (state_of others c) ≡ At (state_of others d)
+Goes_to code c d = (others : ℕ) → step code 0 (state_of others c) ≡ machine.At (state_of others d)
 
 -- a step for each of these instructions, from a state to a state, by states that all have P
 abbrev pub Follows : Code → (Conf → Type 0) → List Instr → Conf → Conf → Type 0
@@ -83,14 +85,22 @@ pub goes : (code : Code) (i : Instr) (pc pc' : ℕ) (r r' : Regs) (w : World) (n
 goes code i pc pc' r r' w n at eff others =
     ap (λ o. takes (effect code.formats o pc r) 0 (Live pc r ∷ replicate others Empty) w n) at ∙ ap (λ e. takes e 0 (Live pc r ∷ replicate others Empty) w n) eff
 
+-- what the world answers to a request, where that is a word
+asked : (q : Request) (pc : ℕ) (rf : ℕ → Regs) (slots : List Slot) (w w' : World) (n v : ℕ) → serve q (suc n) w ≡ Some (Got v, w') → asks_of q pc rf 0 slots w n ≡ served q (Some (Got v, w')) pc rf 0 slots n
+asked (On x) pc rf slots w w' n v answer = ap (λ o. served (On x) o pc rf 0 slots n) answer
+asked (Print bytes) pc rf slots w w' n v answer = ap (λ o. served (Print bytes) o pc rf 0 slots n) answer
+asked (Begin at arg) pc rf slots w w' n v answer = cc
+asked Stop pc rf slots w w' n v answer = ap (λ o. served Stop o pc rf 0 slots n) answer
+asked Tick pc rf slots w w' n v answer = ap (λ o. served Tick o pc rf 0 slots n) answer
+
 pub asks : (code : Code) (i : Instr) (q : Request) (pc pc' : ℕ) (r : Regs) (rf : ℕ → Regs) (v : ℕ) (w w' : World) (n : ℕ) → slice_get code.instrs pc ≡ Some i → effect code.formats (Some i) pc r ≡ Asks q pc' rf → serve q (suc n) w ≡ Some (Got v, w') → last_after q n < 2 ^ 32 - 1
     → Goes_to code (conf (Live pc r) w n) (conf (Live pc' (rf v)) w' (last_after q n))
 asks code i q pc pc' r rf v w w' n at eff answer few others =
     let slots = Live pc r ∷ replicate others Empty in
     ap (λ o. takes (effect code.formats o pc r) 0 slots w n) at
     ∙ ap (λ e. takes e 0 slots w n) eff
-    ∙ ap (λ o. served q o pc' rf 0 slots n) answer
-    ∙ ap (λ b. cond b (with_slot slots 0 (Live pc' (rf v)) w' (last_after q n)) NoRun) (lt-ltb (last_after q n) (2 ^ 32 - 1) few)
+    ∙ asked q pc' rf slots w w' n v answer
+    ∙ ap (λ b. cond b (with_slot slots 0 (Live pc' (rf v)) w' (last_after q n)) Spent) (lt-ltb (last_after q n) (2 ^ 32 - 1) few)
 
 pub quits : (code : Code) (i : Instr) (pc : ℕ) (r : Regs) (w : World) (n : ℕ) → slice_get code.instrs pc ≡ Some i → effect code.formats (Some i) pc r ≡ Quits → Goes_to code (conf (Live pc r) w n) (conf Empty w n)
 quits code i pc r w n at eff others =
@@ -124,29 +134,29 @@ free_get (suc n) zero x h = let e : Empty ≡ x = cc in sym e
 free_get (suc n) (suc s) x h = free_get n s x h
 
 -- a free slot has no step
-no_other : (code : Code) (others s : ℕ) (c : Conf) → step code (suc s) (state_of others c) ≡ NoRun
+no_other : (code : Code) (others s : ℕ) (c : Conf) → step code (suc s) (state_of others c) ≡ Waits
 no_other code others s c = at (slice_get (replicate others Empty) s) refl
   where
-    at : (o : Option Slot) → slice_get (replicate others Empty) s ≡ o → step code (suc s) (state_of others c) ≡ NoRun
+    at : (o : Option Slot) → slice_get (replicate others Empty) s ≡ o → step code (suc s) (state_of others c) ≡ Waits
     at None e = ap (λ o. in_slot code o (suc s) (c.slot ∷ replicate others Empty) c.world c.last) e
     at (Some Empty) e = ap (λ o. in_slot code o (suc s) (c.slot ∷ replicate others Empty) c.world c.last) e
     at (Some (Live pc r)) e = absurd (let bad : Live pc r ≡ Empty = free_get others s (Live pc r) e in cc)
 
 -- what is known of a run: where it has got to, or that it is none
-abbrev pub IsWithin : Code → (Conf → Type 0) → ℕ → List Instr → Conf → List ℕ → After → Type 0
+abbrev pub IsWithin : Code → (Conf → Type 0) → ℕ → List Instr → Conf → List ℕ → Ran → Type 0
 IsWithin code P others is d ss (At st) = (m : Conf) × (st ≡ state_of others m) × P m × (length ss ≤ length is) × (HasQuit st → m ≡ d) × ((m ≡ d) ⊎ ((n : Conf) × Goes_to code m n))
 IsWithin code P others is d ss (Trap kind) = ⊥
 IsWithin code P others is d ss NoRun = Unit {0}
 
-deeper : (code : Code) (P : Conf → Type 0) (others : ℕ) (i : Instr) (is : List Instr) (d : Conf) (s : ℕ) (ss : List ℕ) (a : After) → IsWithin code P others is d ss a → IsWithin code P others (i ∷ is) d (s ∷ ss) a
+deeper : (code : Code) (P : Conf → Type 0) (others : ℕ) (i : Instr) (is : List Instr) (d : Conf) (s : ℕ) (ss : List ℕ) (a : Ran) → IsWithin code P others is d ss a → IsWithin code P others (i ∷ is) d (s ∷ ss) a
 deeper code P others i is d s ss (At st) h = (h.0, h.1, h.2, omega (arith, h.3), h.4, h.5)
 deeper code P others i is d s ss (Trap kind) h = h
 deeper code P others i is d s ss NoRun h = tt
 
-no_step : (code : Code) (others : ℕ) (c : Conf) → c.slot ≡ Empty → step code 0 (state_of others c) ≡ NoRun
+no_step : (code : Code) (others : ℕ) (c : Conf) → c.slot ≡ Empty → step code 0 (state_of others c) ≡ Waits
 no_step code others c quit = ap (λ x. in_slot code (Some x) 0 (x ∷ replicate others Empty) c.world c.last) quit
 
-stuck : (code : Code) (P : Conf → Type 0) (others : ℕ) (is : List Instr) (c d : Conf) (s : ℕ) (ss : List ℕ) → step code s (state_of others c) ≡ NoRun → IsWithin code P others is d (s ∷ ss) (run code (s ∷ ss) (state_of others c))
+stuck : (code : Code) (P : Conf → Type 0) (others : ℕ) (is : List Instr) (c d : Conf) (s : ℕ) (ss : List ℕ) → step code s (state_of others c) ≡ Waits → IsWithin code P others is d (s ∷ ss) (run code (s ∷ ss) (state_of others c))
 stuck code P others is c d s ss e = subst (λ a. IsWithin code P others is d (s ∷ ss) (onward a ss (run code ss))) (sym e) tt
 
 -- A run is a part of the way, or all of it; it does not trap.

@@ -2,6 +2,13 @@
 //! others, The Tera Computer System, 1990.
 #![tactic(auto)]
 
+mod code;
+mod emit;
 mod instr;
 
-pub use instr::{BinaryOp, Code, Instr, LoadKind, Reg, StoreKind, TrapKind};
+pub use code::{Code, Home, LoopMark, Run};
+pub use emit::Emit;
+pub use instr::{BinaryOp, DivideOp, Instr, LoadKind, Reg, StoreKind, Test, TrapKind};
+
+#[cfg(test)]
+mod tests;

@@ -2,7 +2,7 @@
 use Rattle.std.specs.Prelude.{◌≡◌, ℕ, suc, List, [], ◌∷◌, ◌++◌, replicate}
 use Rattle.xc_word.specs.Cells.{fresh}
 use Rattle.xc_word.specs.declared.memory.Cell.{Cell}
-use Rattle.xc_action.specs.World.{World, Request, On, Print, Stop, Tick, Reply, Action, world_of}
+use Rattle.xc_action.specs.World.{World, Request, On, Print, Begin, Stop, Tick, Reply, Action, world_of}
 use Rattle.xc_action.specs.Runs.{part_of, Applies}
 use Rattle.xc_meaning.specs.Programs.{Program}
 use Rattle.xc_meaning.specs.Meaning.{Done, called, trace_of}
@@ -11,6 +11,7 @@ use Rattle.xc_meaning.specs.Meaning.{Done, called, trace_of}
 abbrev pub reply_and : Request → Reply → List Reply → List Reply
 reply_and (On x) a rs = a ∷ rs
 reply_and (Print bytes) a rs = a ∷ rs
+reply_and (Begin at arg) a rs = a ∷ rs
 reply_and Stop a rs = a ∷ rs
 reply_and Tick a rs = rs
 

@@ -204,6 +204,32 @@ impl Memory {
         Ok(())
     }
 
+    /// Adds a segment of these cells. No clause says when the host's memory suffices.
+    pub fn add_cells(&mut self, seg: u32, cells: Vec<Cell>) -> Result<(), AddFault>
+        ensures taken { IsErrOf result AddFault.Taken ↔ IsSome (map.get self.old seg) }
+        ensures added { OnOk result (self.new ≡ map.insert self.old seg cells.items) }
+        ensures unchanged { OnErr result (self.new ≡ self.old) }
+    {
+        let live = self.segments.contains_key(&seg);
+        if live {
+            return Err(AddFault::Taken);
+        }
+        let Ok(_) = self.segments.insert(seg, cells) else {
+            return Err(AddFault::NoMemory);
+        };
+        Ok(())
+    }
+
+    /// How many cells a segment has; 0 where it is not live.
+    pub fn words(&self, seg: u32) -> usize
+        ensures { result ≡ words_of self.now seg }
+    {
+        match self.segments.get(&seg) {
+            Some(cells) => cells.len(),
+            None => 0,
+        }
+    }
+
     /// Takes a segment out; its number may be used again.
     pub fn free(&mut self, seg: u32) -> Result<(), Dead>
         ensures live { is_ok result ≡ is_some (map.get self.old seg) }
