@@ -1,0 +1,9 @@
+pub mod OperandLaws
+pub mod InstrLaws
+pub mod Chains
+pub mod DataLines
+pub mod Drafted
+pub mod Growth
+pub mod Again
+pub mod Laws
+pub mod Printing
