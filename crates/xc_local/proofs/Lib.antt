@@ -1,0 +1,14 @@
+pub mod LocalLaws
+pub mod Lists
+pub mod Views
+pub mod Seats
+pub mod Standing
+pub mod Cores
+pub mod Steps
+pub mod Projected
+pub mod WaitsShown
+pub mod Finishes
+pub mod Stand
+pub mod Sources
+pub mod TwoStreamsStand
+pub mod TwoStreamsEnd

@@ -1,0 +1,5 @@
+pub mod Class
+pub mod Parts
+pub mod Local
+pub mod Promises
+pub mod TwoStreams
