@@ -1,5 +1,8 @@
 pub mod Shown
-pub mod RunLaws
-pub mod Quits
-pub mod Moves
+pub mod WordCounts
+pub mod Slots
+pub mod Rooms
+pub mod SlotSteps
 pub mod Globals
+pub mod Flags
+pub mod RunLaws

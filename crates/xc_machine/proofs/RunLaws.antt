@@ -1,30 +1,45 @@
--- A run goes on by one step.
-use Rattle.std.proofs.Common.{◌≡◌, ℕ, zero, suc, List, [], ◌∷◌, ◌++◌, refl, ap, ◌∙◌}
-use Rattle.xc_isa.specs.declared.instr.Code.{Code}
-use Rattle.xc_isa.specs.Machine.{State, After, At, Trap, NoRun, step, onward, run}
-use Rattle.xc_machine.specs.Answers.{turns}
+-- Runs go on by one step, and end.
+use Rattle.std.proofs.Common.{◌≡◌, ℕ, zero, suc, ◌+◌, ◌-◌, ◌^◌, min, List, [], ◌∷◌, ◌++◌, map, length, Bool, true, false, Option, Some, None, refl, sym, ap, ◌∙◌, subst, arith}
+use Rattle.std.specs.Prelude.{slice_get, is_none}
+use Rattle.std.specs.List.{list_all}
+use Rattle.xc_isa.specs.declared.code.Code.{Code}
+use Rattle.xc_isa.specs.Machine.{Slot, Empty, State}
+use Rattle.xc_isa.specs.Machine as machine
+use Rattle.xc_isa.specs.Runs.{Ran, At, run, onward}
+use Rattle.xc_machine.specs.declared.stream.Stream.{Stream}
+use Rattle.xc_machine.specs.declared.stepped.Stepped.TheVariants as stepped
+use Rattle.xc_machine.specs.Shows.{slot_of}
+use Rattle.xc_machine.specs.Limits.{Limits, Steps}
+use Rattle.xc_machine.specs.Runs.{Follows, ready_streams}
 
-onward_at : (a : After) (ss : List ℕ) (go : State → After) (x : State) → onward a ss go ≡ At x → (m : State) × (a ≡ At m) × (go m ≡ At x)
-onward_at (At m) ss go x e = (m, refl, e)
-onward_at (Trap k) [] go x e = absurd cc
-onward_at (Trap k) (s ∷ ss) go x e = absurd cc
-onward_at NoRun ss go x e = absurd cc
+-- ---- all slots are free
 
-last_turn : (a : After) → onward a [] (λ st. At st) ≡ a
-last_turn (At m) = refl
-last_turn (Trap k) = refl
-last_turn NoRun = refl
+pub quits : (xs : List (Option Stream)) → list_all (λ o. is_none o) xs ≡ true → (s : ℕ) (x : Slot) → slice_get (map slot_of xs) s ≡ Some x → x ≡ Empty
+quits [] e s x f = absurd cc
+quits (None ∷ xs) e zero x f = let same : Empty ≡ x = cc in sym same
+quits (None ∷ xs) e (suc s) x f = quits xs e s x f
+quits (Some t ∷ xs) e s x f = absurd cc
 
-pub more : (code : Code) (ss : List ℕ) (s : ℕ) (x y : State) → run code ss x ≡ At y → run code (ss ++ s ∷ []) x ≡ step code s y
-more code [] s x y e = let same : x ≡ y = cc in last_turn (step code s x) ∙ ap (step code s) same
-more code (t ∷ ss) s x y e =
-    let m = onward_at (step code t x) ss (run code ss) y e in
-    ap (λ a. onward a (ss ++ s ∷ []) (run code (ss ++ s ∷ []))) m.1 ∙ more code ss s m.0 y m.2
+pub quit_all : (xs : List (Option Stream)) → ((s : ℕ) (x : Slot) → slice_get (map slot_of xs) s ≡ Some x → x ≡ Empty) → list_all (λ o. is_none o) xs ≡ true
+quit_all [] h = refl
+quit_all (None ∷ xs) h = quit_all xs (λ s x e. h (suc s) x e)
+quit_all (Some t ∷ xs) h = absurd (let bad : slot_of (Some t) ≡ Empty = h 0 (slot_of (Some t)) refl in cc)
 
-pub turn_more : (n : ℕ) → turns (suc n) ≡ turns n ++ 0 ∷ []
-turn_more zero = refl
-turn_more (suc n) = ap (λ l. 0 ∷ l) (turn_more n)
+-- ---- steps
 
--- one more turn of the stream
-pub next_turn : (code : Code) (n : ℕ) (x y : State) (a : After) → run code (turns n) x ≡ At y → step code 0 y ≡ a → run code (turns (suc n)) x ≡ a
-next_turn code n x y a e f = ap (λ l. run code l x) (turn_more n) ∙ more code (turns n) 0 x y e ∙ f
+module _ {C : Type 0} (picks : C → List ℕ → Option ℕ → C → Type 0) (code : Code) (limits : Limits) where
+  -- one more step
+  pub follows_more : (c : C) (st : State) (ss : List ℕ) (d : C) (mid : State) (s : ℕ) (e : C) (new : State) → Follows picks code limits c st ss d mid
+      → picks d (ready_streams code mid) (Some s) e → Steps code limits s stepped.Went mid new → Follows picks code limits c st (ss ++ s ∷ []) e new
+  follows_more c st [] d mid s e new f p h =
+      let P : C → State → Type 0 = λ x y. (a : C) × (b : State) × picks x (ready_streams code y) (Some s) a × Steps code limits s stepped.Went y b × ((a ≡ e) × (b ≡ new)) in
+      subst (λ x. P x st) (sym f.0) (subst (P d) (sym f.1) (e, new, p, h, (refl, refl)))
+  follows_more c st (t ∷ ss) d mid s e new f p h = (f.0, f.1, f.2, f.3, follows_more f.0 f.1 ss d mid s e new f.4 p h)
+
+  -- what a chooser is followed to is a run
+  pub follows_run : (c : C) (st : State) (ss : List ℕ) (d : C) (new : State) → Follows picks code limits c st ss d new → run code ss st ≡ At new
+  follows_run c st [] d new f = ap At f.1
+  follows_run c st (s ∷ ss) d new f = ap (λ a. onward a ss (run code ss)) f.3.0 ∙ follows_run f.0 f.1 ss d new f.4
+
+pub count_more : (n made now next : ℕ) → now ≡ min (n + made) (2 ^ 64 - 1) → next ≡ min (now + 1) (2 ^ 64 - 1) → next ≡ min (n + (made + 1)) (2 ^ 64 - 1)
+count_more n made now next e f = omega (arith, e, f)

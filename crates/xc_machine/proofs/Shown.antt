@@ -1,5 +1,5 @@
 -- What a change of the memory shows.
-use Rattle.std.proofs.Common.{◌≡◌, ℕ, zero, suc, ◌*◌, ◌^◌, List, [], ◌∷◌, Option, Some, None, refl, sym, ap, ◌∙◌, subst}
+use Rattle.std.proofs.Common.{◌≡◌, ℕ, zero, suc, ◌*◌, ◌^◌, List, [], ◌∷◌, length, Option, Some, None, refl, sym, ap, ◌∙◌, subst, arith}
 use mathlib.Core.Path.{fun_ext}
 use Rattle.std.specs.Prelude.{slice_get, slice_set, replicate, unwrap_or}
 use Rattle.std.specs.Option.{option_map, option_and_then}
@@ -13,7 +13,7 @@ use Rattle.xc_word.proofs.Maps.{assign, get-assign_same, get-assign_other}
 use Rattle.xc_action.specs.World.{Reach, New, Free, On, Got, Dead, put, left_in, reached, freed, put_back, with_out, serve}
 use Rattle.xc_action.proofs.Puts.{by_same, put_at, put_other, put_same}
 use Rattle.xc_machine.specs.Shows.{segs_in, world_in}
-use Rattle.xc_machine.specs.Answers.{Serves}
+use Rattle.xc_machine.specs.Stores.{Serves}
 
 pub segs_assign : (m : Segments) (s : ℕ) (o : Option (List Cell)) → segs_in (assign m s o) ≡ put (segs_in m) s (unwrap_or o [])
 segs_assign m s o = fun_ext (λ q. by_same (segs_in (assign m s o) q ≡ put (segs_in m) s (unwrap_or o []) q) q s
@@ -24,7 +24,7 @@ cell_in : (o : Option (List Cell)) (off : ℕ) → option_and_then (λ cells. sl
 cell_in None off = refl
 cell_in (Some cells) off = refl
 
-segs_put : (m : Segments) (p : Place) (c : Cell) (o : Option (List Cell)) → get m p.seg ≡ o → segs_in (put_in m p c o) ≡ put (segs_in m) p.seg (slice_set (segs_in m p.seg) p.off c)
+pub segs_put : (m : Segments) (p : Place) (c : Cell) (o : Option (List Cell)) → get m p.seg ≡ o → segs_in (put_in m p c o) ≡ put (segs_in m) p.seg (slice_set (segs_in m p.seg) p.off c)
 segs_put m p c None e =
     let none : segs_in m p.seg ≡ [] = ap (λ u. unwrap_or u []) e in
     sym (put_same (segs_in m) p.seg (slice_set (segs_in m p.seg) p.off c) (none ∙ ap (λ xs. slice_set xs p.off c) (sym none)))
@@ -65,17 +65,17 @@ pub new_served : (m : Segments) (out : List ℕ) (n num : ℕ) → (n ≡ 0 → 
 new_served m out zero num ne = absurd (ne refl)
 new_served m out (suc n) num ne = ap (λ s. Some (Got (num * 2 ^ 32), record { segs = s; out = out })) (sym (segs_assign m num (Some (replicate (suc n) fresh))))
 
--- the end of a segment, which is live where it has a first cell
-pub free_served : (m : Segments) (out : List ℕ) (g num : ℕ) (c : Cell) → cell_at m (record { seg = g; off = 0 }) ≡ Some c → serve (On (Free g)) num (world_in m out) ≡ Some (Got 0, world_in (remove m g) out)
-free_served m out g num c e = at (segs_in m g) refl
+-- the end of a segment, which is live where it has cells
+pub free_served : (m : Segments) (out : List ℕ) (g : ℕ) → (length (segs_in m g) ≡ 0 → ⊥) → serve (On (Free g)) 0 (world_in m out) ≡ Some (Got 0, world_in (remove m g) out)
+free_served m out g some = at (segs_in m g) refl
   where
-    at : (xs : List Cell) → segs_in m g ≡ xs → serve (On (Free g)) num (world_in m out) ≡ Some (Got 0, world_in (remove m g) out)
-    at [] f = absurd (let no : None ≡ Some c = ap (λ xs. slice_get xs 0) (sym f) ∙ sym (cell_in (get m g) 0) ∙ e in cc)
+    at : (xs : List Cell) → segs_in m g ≡ xs → serve (On (Free g)) 0 (world_in m out) ≡ Some (Got 0, world_in (remove m g) out)
+    at [] f = absurd (some (ap length f))
     at (x ∷ xs) f = ap (λ ys. with_out (put_back (freed ys) g (segs_in m)) out) f ∙ ap (λ s. Some (Got 0, record { segs = s; out = out })) (sym (segs_assign m g None))
 
-pub free_dead : (m : Segments) (out : List ℕ) (g num : ℕ) → cell_at m (record { seg = g; off = 0 }) ≡ None → serve (On (Free g)) num (world_in m out) ≡ Some (Dead, world_in m out)
-free_dead m out g num e = at (segs_in m g) refl
+pub free_dead : (m : Segments) (out : List ℕ) (g : ℕ) → length (segs_in m g) ≡ 0 → serve (On (Free g)) 0 (world_in m out) ≡ Some (Dead, world_in m out)
+free_dead m out g none = at (segs_in m g) refl
   where
-    at : (xs : List Cell) → segs_in m g ≡ xs → serve (On (Free g)) num (world_in m out) ≡ Some (Dead, world_in m out)
+    at : (xs : List Cell) → segs_in m g ≡ xs → serve (On (Free g)) 0 (world_in m out) ≡ Some (Dead, world_in m out)
     at [] f = ap (λ ys. with_out (put_back (freed ys) g (segs_in m)) out) f ∙ ap (λ s. Some (Dead, record { segs = s; out = out })) (put_same (segs_in m) g [] f)
-    at (x ∷ xs) f = absurd (let no : Some x ≡ None = ap (λ xs. slice_get xs 0) (sym f) ∙ sym (cell_in (get m g) 0) ∙ e in cc)
+    at (x ∷ xs) f = absurd (omega (arith, none, ap length f))

@@ -1,5 +1,8 @@
 pub mod Registers
 pub mod Places
 pub mod Shows
-pub mod Answers
-pub mod Taken
+pub mod Stores
+pub mod Targets
+pub mod Limits
+pub mod Machines
+pub mod Runs

@@ -1,12 +1,17 @@
-//! The machine that runs code: for now one slot, with no limit but that on steps.
+//! The machine that runs code, with limits on live words, output and steps.
 #![tactic(auto)]
 
 mod machine;
 mod run;
+mod start;
+mod stepped;
+mod store;
 mod stream;
+mod target;
+mod values;
+mod views;
 
-pub use machine::{Machine, Stepped};
+pub use machine::Machine;
 pub use run::End;
-
-#[cfg(test)]
-mod tests;
+pub use start::NewFault;
+pub use stepped::Stepped;

@@ -1,155 +1,110 @@
 //! The machine, and its steps.
 
-ghost use Rattle.std.specs.Prelude.{◌≡◌, ◌<◌, ◌≤◌, ◌+◌, ◌-◌, ◌^◌, ◌∷◌, [], ◌↔◌, suc, Some, IsTrue, OnSome, slice_get};
-ghost use Rattle.xc_action.specs.World.{On, Reach, New, serve};
-ghost use Rattle.xc_isa.specs.Effects.{Asks, binary, load_kind, store_kind, reaches, frees, prints, effect};
-ghost use Rattle.xc_isa.specs.Machine.{Live, step, HasQuit};
-ghost use Rattle.xc_machine.specs.Registers.{regs_of};
-ghost use Rattle.xc_machine.specs.Places.{place_of, answered};
+ghost use Rattle.std.specs.Prelude.{◌≡◌, ◌<◌, ◌≤◌, ◌+◌, ◌-◌, ◌^◌, suc, Some, None, IsSome, IfSome, OnSome, ℕ, length, slice_get, slice_set, map, position, is_none};
+ghost use Rattle.xc_action.specs.World.{On, Reach, New, Begin, put};
+ghost use Rattle.xc_isa.specs.Effects.{Asks, Goes, Quits, read, load_kind, store_kind, sets, reaches, frees, prints, effect, printed_regs};
+ghost use Rattle.xc_isa.specs.Machine.{Live, Empty, free_slot, begun};
+ghost use Rattle.xc_machine.specs.Registers.{answered};
+ghost use Rattle.std.specs.Option.{option_map};
+ghost use Rattle.xc_machine.specs.Shows.{stream_in, regs_at};
+ghost use Rattle.xc_machine.specs.Targets.{target_of};
 
+use crate::stepped::Stepped;
+use crate::store::{Added, Printed, Store};
 use crate::stream::Stream;
-use std::alloc::Global;
-use xc_isa::{BinaryOp, Code, Instr, LoadKind, Reg, StoreKind, TrapKind};
-use xc_word::{Access, Applied, Kind, Memory, Place};
+use crate::target::Target;
+use crate::values::{SEGMENT_SPAN, distance, divide, holds, moved, operate, place};
+use xc_isa::{Code, Instr, Reg, TrapKind};
+use xc_sched::Ready;
+use xc_word::{Access, Applied};
 
-/// What came of a step. Only `Went` changes the machine.
-#[derive(Clone, Copy, Debug, PartialEq, Eq)]
-pub enum Stepped {
-    Went,
-    NotReady,
-    Trap(TrapKind),
-    NoMemory,
-}
-
-/// Memory, output and a stream.
+/// Code with its memory, its output, and a slot for each stream.
 #[derive(Drop)]
-pub struct Machine {
-    alloc: Global,
-    memory: Memory,
-    output: Vec<u8>,
-    stream: Option<Stream>,
-    last: u32,
-    ghost numbered: { last < 2 ^ 32 - 1 },
+pub struct Machine<'a> {
+    pub(crate) code: &'a Code,
+    pub(crate) slots: Vec<Option<Stream>>,
+    pub(crate) store: Store,
+    pub(crate) ready: Ready,
+    pub(crate) steps: u64,
+    ghost few: { length slots.items ≤ 1024 },
+    ghost each: { length ready ≡ length slots.items },
 }
 
-/// The number of the last segment that there may be.
-const LAST_SEGMENT: u32 = u32::MAX - 1;
+impl Machine<'_> {
+    ghost use Rattle.xc_machine.specs.Machines.{state_of, code_of, limits_of, steps_of, counted, RunsSame};
+    ghost use Rattle.xc_machine.specs.Limits.{Makes, Steps};
 
-/// What a pointer grows by from one segment to the next.
-const SEGMENT_SPAN: u64 = 1 << 32;
-
-/// What an access is of: the cell at an offset from where a pointer points.
-#[derive(Clone, Copy)]
-struct Target {
-    kind: Kind,
-    word: u64,
-    off: u32,
-    value: u64,
-}
-
-/// The place at an offset from where a pointer points.
-fn place(word: u64, off: u32) -> Option<Place>
-    ensures { result ≡ place_of word off }
-{
-    let seg = (word >> 32) as u32;
-    let off = (word & 0xffff_ffff) + u64::from(off);
-    match u32::try_from(off) {
-        Ok(off) => Some(Place { seg, off }),
-        Err(_) => None,
-    }
-}
-
-fn operate(op: BinaryOp, a: u64, b: u64) -> u64
-    ensures { result ≡ binary op a b }
-{
-    match op {
-        BinaryOp::Add => a.wrapping_add(b),
-        BinaryOp::Sub => a.wrapping_sub(b),
-        BinaryOp::Mul => a.wrapping_mul(b),
-    }
-}
-
-fn kind_of_load(kind: LoadKind) -> Kind
-    ensures { result ≡ load_kind kind }
-{
-    match kind {
-        LoadKind::Ld => Kind::ReadXx,
-        LoadKind::Ldfe => Kind::ReadFe,
-        LoadKind::Ldff => Kind::ReadFf,
-    }
-}
-
-fn kind_of_store(kind: StoreKind) -> Kind
-    ensures { result ≡ store_kind kind }
-{
-    match kind {
-        StoreKind::St => Kind::WriteXf,
-        StoreKind::Stef => Kind::WriteEf,
-        StoreKind::Stff => Kind::WriteFf,
-    }
-}
-
-impl Machine {
-    ghost use Rattle.xc_machine.specs.Shows.{world_in, slot_of};
-    ghost use Rattle.xc_machine.specs.Answers.{state_of, Serves, Does};
-    ghost use Rattle.xc_machine.specs.Taken.{taken};
-
-    /// A machine with this memory, no output and this stream.
-    pub(crate) fn starting(alloc: Global, memory: Memory, stream: Stream, last: u32) -> Machine
-        requires { last < 2 ^ 32 - 1 }
-        ensures { state_of result ≡ record { slots = slot_of (Some stream) ∷ []; world = world_in memory []; last = last } }
+    /// The stream in a slot goes on at another position, with a word in a register where one is named.
+    fn go(&mut self, s: u32, at: u64, to: Option<Reg>, word: u64)
+        requires live { IsSome (stream_in self.old.slots.items s) }
+        ensures state { state_of self.new ≡ record (state_of self.old) { slots = slice_set (state_of self.old).slots s (Live at (answered (regs_at (stream_in self.old.slots.items s)) to word)) } }
+        ensures same { RunsSame self.old self.new }
     {
-        Machine {
-            alloc,
-            memory,
-            output: Vec::new(alloc),
-            stream: Some(stream),
-            last,
+        if let Some(stream) = &mut self.slots[s as usize] {
+            stream.go(at, to, word);
         }
+    }
+
+    /// What a register of the stream in a slot holds.
+    fn read(&self, s: u32, r: Reg) -> u64
+        requires { s < length self.now.slots.items }
+        ensures { result ≡ read (regs_at (stream_in self.now.slots.items s)) r }
+    {
+        match &self.slots[s as usize] {
+            Some(stream) => stream.read(r),
+            None => 0,
+        }
+    }
+
+    /// A register gets a word.
+    fn set(&mut self, s: u32, at: u64, to: Reg, word: u64) -> Stepped
+        requires live { IsSome (stream_in self.old.slots.items s) }
+        requires next { at + 1 < 2 ^ 64 }
+        ensures does { Makes (limits_of self.old) result (state_of self.old) (state_of self.new) s (Goes (suc at) (put (regs_at (stream_in self.old.slots.items s)) to word)) }
+        ensures same { RunsSame self.old self.new }
+    {
+        self.go(s, at + 1, Some(to), word);
+        Stepped::Went
+    }
+
+    /// A register gets a word, or a trap where there is none.
+    fn set_or_trap(
+        &mut self,
+        s: u32,
+        at: u64,
+        to: Reg,
+        word: Option<u64>,
+        kind: TrapKind,
+    ) -> Stepped
+        requires live { IsSome (stream_in self.old.slots.items s) }
+        requires next { at + 1 < 2 ^ 64 }
+        ensures does { Makes (limits_of self.old) result (state_of self.old) (state_of self.new) s (sets kind to word (suc at) (regs_at (stream_in self.old.slots.items s))) }
+        ensures same { RunsSame self.old self.new }
+    {
+        match word {
+            Some(word) => self.set(s, at, to, word),
+            None => Stepped::Trap(kind),
+        }
+    }
+
+    /// The stream goes to another position.
+    fn jump(&mut self, s: u32, at: u64) -> Stepped
+        requires live { IsSome (stream_in self.old.slots.items s) }
+        ensures does { Makes (limits_of self.old) result (state_of self.old) (state_of self.new) s (Goes at (regs_at (stream_in self.old.slots.items s))) }
+        ensures same { RunsSame self.old self.new }
+    {
+        self.go(s, at, None, 0);
+        Stepped::Went
     }
 
     /// Makes an access.
-    fn reach(&mut self, act: &Access) -> Applied
-        ensures served { Serves result (world_in self.old.memory self.old.output.items) (world_in self.new.memory self.new.output.items) (serve (On (Reach act.now)) 0 (world_in self.old.memory self.old.output.items)) }
-        ensures stream { self.new.stream ≡ self.old.stream }
-        ensures last { self.new.last ≡ self.old.last }
+    fn touch(&mut self, s: u32, at: u64, target: Target) -> Stepped
+        requires live { IsSome (stream_in self.old.slots.items s) }
+        requires next { at + 1 < 2 ^ 64 }
+        ensures does { Makes (limits_of self.old) result (state_of self.old) (state_of self.new) s (reaches target.kind target.pointer target.off target.value (suc at) (answered (regs_at (stream_in self.old.slots.items s)) target.to)) }
+        ensures same { RunsSame self.old self.new }
     {
-        self.memory.apply(act)
-    }
-
-    /// The stream goes on, with what was answered in a register where one is named.
-    fn go(&mut self, stream: Stream, to: Option<Reg>, word: u64)
-        requires { stream.at + 1 < 2 ^ 64 }
-        ensures { state_of self.new ≡ record (state_of self.old) { slots = Live (suc stream.at) (answered (regs_of stream.regs) to word) ∷ [] } }
-    {
-        let next = match to {
-            Some(d) => stream.with(stream.at + 1, d, word),
-            None => stream.moved(stream.at + 1),
-        };
-        self.stream = Some(next);
-    }
-
-    /// An access at a place.
-    fn touch(&mut self, stream: Stream, act: &Access, to: Option<Reg>) -> Stepped
-        requires { stream.at + 1 < 2 ^ 64 }
-        ensures { Does result (state_of self.old) (state_of self.new) (taken (state_of self.old) (Asks (On (Reach act.now)) (suc stream.at) (answered (regs_of stream.regs) to))) }
-    {
-        match self.reach(act) {
-            Applied::Done(word) => {
-                self.go(stream, to, word);
-                Stepped::Went
-            }
-            Applied::Blocked => Stepped::NotReady,
-            Applied::Bad => Stepped::Trap(TrapKind::Place),
-        }
-    }
-
-    /// An access at an offset from where a pointer points.
-    fn touch_at(&mut self, stream: Stream, target: Target, to: Option<Reg>) -> Stepped
-        requires { stream.at + 1 < 2 ^ 64 }
-        ensures { Does result (state_of self.old) (state_of self.new) (taken (state_of self.old) (reaches target.kind target.word target.off target.value (suc stream.at) (answered (regs_of stream.regs) to))) }
-    {
-        let Some(place) = place(target.word, target.off) else {
+        let Some(place) = place(target.pointer, target.off) else {
             return Stepped::Trap(TrapKind::Place);
         };
         let act = Access {
@@ -157,142 +112,244 @@ impl Machine {
             place,
             value: target.value,
         };
-        self.touch(stream, &act, to)
+        match self.store.touch(&act) {
+            Applied::Done(word) => {
+                self.go(s, at + 1, target.to, word);
+                Stepped::Went
+            }
+            Applied::Blocked => Stepped::NotReady,
+            Applied::Bad => Stepped::Trap(TrapKind::Place),
+        }
     }
 
     /// A new segment of so many cells.
-    fn new_segment(&mut self, stream: Stream, to: Reg, cells: u64) -> Stepped
-        requires { stream.at + 1 < 2 ^ 64 }
-        ensures { Does result (state_of self.old) (state_of self.new) (taken (state_of self.old) (Asks (On (New cells)) (suc stream.at) (answered (regs_of stream.regs) (Some to)))) }
+    fn new_segment(&mut self, s: u32, at: u64, to: Reg, cells: u64) -> Stepped
+        requires live { IsSome (stream_in self.old.slots.items s) }
+        requires next { at + 1 < 2 ^ 64 }
+        ensures does { Makes (limits_of self.old) result (state_of self.old) (state_of self.new) s (Asks (On (New cells)) (suc at) (answered (regs_at (stream_in self.old.slots.items s)) (Some to))) }
+        ensures same { RunsSame self.old self.new }
     {
         if cells == 0 {
             return Stepped::Trap(TrapKind::Size);
         }
-        if self.last >= LAST_SEGMENT {
-            return Stepped::NotReady;
-        }
-        let number = self.last + 1;
-        if cells > u64::from(u32::MAX) {
-            return Stepped::NoMemory;
-        }
-        match self.memory.add_segment(number, cells as u32) {
-            Ok(()) => {
-                self.last = number;
-                self.go(stream, Some(to), u64::from(number) * SEGMENT_SPAN);
+        match self.store.add(cells) {
+            Added::At(number) => {
+                self.go(s, at + 1, Some(to), u64::from(number) * SEGMENT_SPAN);
                 Stepped::Went
             }
-            Err(_) => Stepped::NoMemory,
+            Added::Full => Stepped::WordsFull {
+                live: self.store.live(),
+                asked: cells,
+            },
+            Added::NoMemory => Stepped::NoMemory,
         }
     }
 
     /// Frees the segment that a pointer points to the start of.
-    fn free(&mut self, stream: Stream, word: u64) -> Stepped
-        requires { stream.at + 1 < 2 ^ 64 }
-        ensures { Does result (state_of self.old) (state_of self.new) (taken (state_of self.old) (frees word (suc stream.at) (regs_of stream.regs))) }
+    fn free(&mut self, s: u32, at: u64, pointer: u64) -> Stepped
+        requires live { IsSome (stream_in self.old.slots.items s) }
+        requires next { at + 1 < 2 ^ 64 }
+        ensures does { Makes (limits_of self.old) result (state_of self.old) (state_of self.new) s (frees pointer (suc at) (regs_at (stream_in self.old.slots.items s))) }
+        ensures same { RunsSame self.old self.new }
     {
-        if word % SEGMENT_SPAN != 0 {
-            return Stepped::Trap(TrapKind::Place);
+        if pointer % SEGMENT_SPAN == 0 && self.store.free((pointer >> 32) as u32) {
+            self.go(s, at + 1, None, 0);
+            Stepped::Went
+        } else {
+            Stepped::Trap(TrapKind::Place)
         }
-        let seg = (word >> 32) as u32;
-        if self.memory.cell(Place { seg, off: 0 }).is_none() {
-            return Stepped::Trap(TrapKind::Place);
-        }
-        let _ = self.memory.free(seg);
-        self.go(stream, None, 0);
-        Stepped::Went
     }
 
     /// Prints r24 and the registers that follow.
-    fn print(&mut self, code: &Code, stream: Stream, format: u32) -> Stepped
-        requires { stream.at + 1 < 2 ^ 64 }
-        ensures { Does result (state_of self.old) (state_of self.new) (taken (state_of self.old) (prints (slice_get code.now.formats format) (suc stream.at) (regs_of stream.regs))) }
+    fn print(&mut self, s: u32, at: u64, format: u32) -> Stepped
+        requires live { IsSome (stream_in self.old.slots.items s) }
+        requires next { at + 1 < 2 ^ 64 }
+        ensures does { Makes (limits_of self.old) result (state_of self.old) (state_of self.new) s (prints (slice_get (code_of self.old).formats format) (suc at) (regs_at (stream_in self.old.slots.items s))) }
+        ensures same { RunsSame self.old self.new }
     {
+        let code = self.code;
         let Some(format) = code.formats.get(format as usize) else {
             return Stepped::Trap(TrapKind::Format);
         };
-        let mut line = Vec::new(self.alloc);
-        if xc_format::print(&mut line, format.as_slice(), &stream.printed()).is_err() {
-            return Stepped::NoMemory;
+        let values = self.printed(s);
+        match self.store.print(format.as_slice(), &values) {
+            Printed::Done => {
+                self.go(s, at + 1, None, 0);
+                Stepped::Went
+            }
+            Printed::Full(piece) => Stepped::OutFull {
+                length: self.store.output().len() as u64,
+                piece,
+            },
+            Printed::NoMemory => Stepped::NoMemory,
         }
-        if self.output.extend_from_slice(line.as_slice()).is_err() {
-            return Stepped::NoMemory;
+    }
+
+    /// A stream starts at a position with a word in the lowest free slot, if there is one.
+    fn create(&mut self, s: u32, at: u64, to: Reg, start: u32, word: u64) -> Stepped
+        requires live { IsSome (stream_in self.old.slots.items s) }
+        requires next { at + 1 < 2 ^ 64 }
+        ensures does { Makes (limits_of self.old) result (state_of self.old) (state_of self.new) s (Asks (Begin start word) (suc at) (answered (regs_at (stream_in self.old.slots.items s)) (Some to))) }
+        ensures same { RunsSame self.old self.new }
+    {
+        match lowest_free(&self.slots) {
+            Some(free) => {
+                self.go(s, at + 1, Some(to), 1);
+                self.slots[free] = Some(Stream::begun(start, word));
+            }
+            None => self.go(s, at + 1, Some(to), 0),
         }
-        self.go(stream, None, 0);
         Stepped::Went
     }
 
-    /// Runs an instruction of the stream.
-    fn obey(&mut self, code: &Code, stream: Stream, instr: Instr) -> Stepped
-        requires { stream.at + 1 < 2 ^ 64 }
-        ensures { Does result (state_of self.old) (state_of self.new) (taken (state_of self.old) (effect code.now.formats (Some instr) stream.at (regs_of stream.regs))) }
+    /// The stream ends.
+    fn quit(&mut self, s: u32) -> Stepped
+        requires live { IsSome (stream_in self.old.slots.items s) }
+        ensures does { Makes (limits_of self.old) result (state_of self.old) (state_of self.new) s (Quits) }
+        ensures same { RunsSame self.old self.new }
     {
-        match instr {
-            Instr::Li(d, word) => {
-                self.go(stream, Some(d), word);
-                Stepped::Went
-            }
-            Instr::Binary(op, d, a, b) => {
-                self.go(stream, Some(d), operate(op, stream.read(a), stream.read(b)));
-                Stepped::Went
-            }
-            Instr::Load(kind, d, a, off) => {
-                let target = Target {
-                    kind: kind_of_load(kind),
-                    word: stream.read(a),
-                    off,
-                    value: 0,
-                };
-                self.touch_at(stream, target, Some(d))
-            }
-            Instr::Store(kind, b, a, off) => {
-                let target = Target {
-                    kind: kind_of_store(kind),
-                    word: stream.read(a),
-                    off,
-                    value: stream.read(b),
-                };
-                self.touch_at(stream, target, None)
-            }
-            Instr::NewSeg(d, a) => self.new_segment(stream, d, stream.read(a)),
-            Instr::Free(a) => self.free(stream, stream.read(a)),
-            Instr::Print(format) => self.print(code, stream, format),
-            Instr::Quit => {
-                self.stream = None;
-                Stepped::Went
-            }
+        self.slots[s as usize] = None;
+        Stepped::Went
+    }
+
+    /// The registers of the stream in a slot that are printed.
+    fn printed(&self, s: u32) -> [u64; 8]
+        requires { s < length self.now.slots.items }
+        ensures { result ≡ map (read (regs_at (stream_in self.now.slots.items s))) printed_regs }
+    {
+        match &self.slots[s as usize] {
+            Some(stream) => stream.printed(),
+            None => [0; 8],
+        }
+    }
+    /// Makes the access of an instruction.
+    fn access(&mut self, s: u32, at: u64, instr: Instr) -> Stepped
+        requires live { IsSome (stream_in self.old.slots.items s) }
+        requires next { at + 1 < 2 ^ 64 }
+        requires access { IsSome (target_of (regs_at (stream_in self.old.slots.items s)) instr) }
+        ensures does { Makes (limits_of self.old) result (state_of self.old) (state_of self.new) s (effect (code_of self.old).formats (Some instr) at (regs_at (stream_in self.old.slots.items s))) }
+        ensures same { RunsSame self.old self.new }
+    {
+        let Some(target) = self.target(s, instr) else {
+            unreachable!()
+        };
+        self.touch(s, at, target)
+    }
+
+    /// The access that an instruction of the stream in a slot makes.
+    fn target(&self, s: u32, instr: Instr) -> Option<Target>
+        requires live { IsSome (stream_in self.now.slots.items s) }
+        ensures { result ≡ target_of (regs_at (stream_in self.now.slots.items s)) instr }
+    {
+        match &self.slots[s as usize] {
+            Some(stream) => stream.target(instr),
+            None => unreachable!(),
         }
     }
 
-    /// One step of the stream.
-    pub fn step(&mut self, code: &Code) -> Stepped
-        ensures { Does result (state_of self.old) (state_of self.new) (step code.now 0 (state_of self.old)) }
+    /// Runs an instruction of the stream in a slot.
+    fn obey(&mut self, s: u32, at: u64, instr: Instr) -> Stepped
+        requires live { IsSome (stream_in self.old.slots.items s) }
+        requires next { at + 1 < 2 ^ 64 }
+        ensures does { Makes (limits_of self.old) result (state_of self.old) (state_of self.new) s (effect (code_of self.old).formats (Some instr) at (regs_at (stream_in self.old.slots.items s))) }
+        ensures same { RunsSame self.old self.new }
     {
-        let Some(stream) = self.stream else {
+        match instr {
+            Instr::Li(d, word) => self.set(s, at, d, word),
+            Instr::Addi(d, a, word) => {
+                let sum = self.read(s, a).wrapping_add(word);
+                self.set(s, at, d, sum)
+            }
+            Instr::Binary(op, d, a, b) => {
+                let word = operate(op, self.read(s, a), self.read(s, b));
+                self.set(s, at, d, word)
+            }
+            Instr::Divide(op, d, a, b) => {
+                let word = divide(op, self.read(s, a), self.read(s, b));
+                self.set_or_trap(s, at, d, word, TrapKind::Divide)
+            }
+            Instr::Padd(d, a, b, cells) => {
+                let word = moved(self.read(s, a), self.read(s, b), cells);
+                self.set_or_trap(s, at, d, word, TrapKind::Range)
+            }
+            Instr::Psub(d, a, b) => {
+                let word = distance(self.read(s, a), self.read(s, b));
+                self.set_or_trap(s, at, d, word, TrapKind::Objects)
+            }
+            Instr::Bound(a, n) => {
+                if self.read(s, a) < u64::from(n) {
+                    self.jump(s, at + 1)
+                } else {
+                    Stepped::Trap(TrapKind::Index)
+                }
+            }
+            Instr::Load(_, _, _, _)
+            | Instr::Store(_, _, _, _)
+            | Instr::Purge(_, _)
+            | Instr::Fadd(_, _, _, _) => self.access(s, at, instr),
+            Instr::NewSeg(d, a) => self.new_segment(s, at, d, self.read(s, a)),
+            Instr::Free(a) => self.free(s, at, self.read(s, a)),
+            Instr::Jmp(to) => self.jump(s, u64::from(to)),
+            Instr::Branch(test, a, to) => {
+                if holds(test, self.read(s, a)) {
+                    self.jump(s, u64::from(to))
+                } else {
+                    self.jump(s, at + 1)
+                }
+            }
+            Instr::Jal(d, to) => {
+                self.go(s, u64::from(to), Some(d), at + 1);
+                Stepped::Went
+            }
+            Instr::Jr(a) => self.jump(s, self.read(s, a)),
+            Instr::Create(d, a, start) => self.create(s, at, d, start, self.read(s, a)),
+            Instr::Quit => self.quit(s),
+            Instr::Print(format) => self.print(s, at, format),
+            Instr::Trap(_) => Stepped::Trap(TrapKind::Code),
+        }
+    }
+
+    /// The position of the stream in a slot. None: there is no stream.
+    pub(crate) fn position(&self, s: u32) -> Option<u64>
+        ensures { result ≡ option_map (λ t. t.at) (stream_in self.now.slots.items s) }
+    {
+        match self.slots.get(s as usize) {
+            Some(Some(stream)) => Some(stream.at),
+            _ => None,
+        }
+    }
+
+    /// One step of the stream in a slot, which is not counted.
+    fn try_step(&mut self, s: u32) -> Stepped
+        ensures step { Steps (code_of self.old) (limits_of self.old) s result (state_of self.old) (state_of self.new) }
+        ensures same { RunsSame self.old self.new }
+    {
+        let Some(at) = self.position(s) else {
             return Stepped::NotReady;
         };
-        let Some(instr) = instr_at(code, stream.at) else {
-            return Stepped::Trap(TrapKind::Jump);
-        };
-        self.obey(code, stream, instr)
+        match instr_at(self.code, at) {
+            Some(instr) => self.obey(s, at, instr),
+            None => Stepped::Trap(TrapKind::Jump),
+        }
     }
 
-    /// Whether the stream has ended.
-    pub fn has_quit(&self) -> bool
-        ensures { IsTrue result ↔ HasQuit (state_of self.now) }
+    /// One step of the stream in a slot. Only a step that went changes the machine; it is counted, up to 2^64 - 1.
+    pub fn step(&mut self, s: u32) -> Stepped
+        ensures step { Steps (code_of self.old) (limits_of self.old) s result (state_of self.old) (state_of self.new) }
+        ensures count { steps_of self.new ≡ counted result (steps_of self.old) }
+        ensures code { code_of self.new ≡ code_of self.old }
+        ensures limits { limits_of self.new ≡ limits_of self.old }
     {
-        self.stream.is_none()
-    }
-
-    /// What has been printed.
-    pub fn output(&self) -> &[u8]
-        ensures { result.now ≡ (state_of self.now).world.out }
-    {
-        self.output.as_slice()
+        let stepped = self.try_step(s);
+        if let Stepped::Went = stepped {
+            self.steps = self.steps.saturating_add(1);
+        }
+        stepped
     }
 }
 
 /// The instruction at a position.
-fn instr_at(code: &Code, at: u64) -> Option<Instr>
+pub(crate) fn instr_at(code: &Code, at: u64) -> Option<Instr>
     ensures value { result ≡ slice_get code.now.instrs at }
     ensures next { OnSome result (at + 1 < 2 ^ 64) }
 {
@@ -301,4 +358,12 @@ fn instr_at(code: &Code, at: u64) -> Option<Instr>
         return None;
     }
     Some(instrs[at as usize])
+}
+
+/// The lowest free slot.
+fn lowest_free(slots: &[Option<Stream>]) -> Option<usize>
+    ensures slot { result ≡ position (λ o. is_none o) slots.now }
+    ensures within { IfSome result (λ k. k < length slots.now) }
+{
+    slots.iter().position(|slot| slot.is_none())
 }

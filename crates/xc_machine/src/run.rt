@@ -1,82 +1,108 @@
 //! Whole runs.
 
-ghost use Rattle.std.specs.Prelude.{◌≡◌, ◌<◌, ◌-◌, ◌^◌, ◌∷◌, [], IfSome, replicate};
-ghost use Rattle.xc_word.specs.Cells.{fresh};
-ghost use Rattle.xc_action.specs.World.{segs_of};
-ghost use Rattle.xc_isa.specs.Machine.{start};
-ghost use Rattle.xc_machine.specs.Shows.{segs_in};
+ghost use Rattle.std.specs.Prelude.{◌≡◌, ◌≤◌, ◌↔◌, IsTrue, is_none};
+ghost use Rattle.std.specs.List.{list_all};
+ghost use Rattle.xc_isa.specs.Machine.{HasQuit};
+ghost use Rattle.xc_machine.specs.Machines.{state_of, code_of, limits_of, steps_of, RunsSame};
+ghost use Rattle.xc_machine.specs.Runs.{ready_flags, RunsTo, Rests};
 
-use crate::machine::{Machine, Stepped};
+use crate::machine::Machine;
+use crate::stepped::Stepped;
 use crate::stream::Stream;
-use std::alloc::Global;
-use xc_isa::{Code, TrapKind};
-use xc_word::Memory;
+use xc_isa::TrapKind;
+use xc_sched::Chooser;
 
-/// How a run ended, and after how many steps.
+/// Why a run ended.
 #[derive(Clone, Copy, Debug, PartialEq, Eq)]
 pub enum End {
-    /// The stream has ended.
-    Ended(u64),
-    /// The stream is not ready.
-    Stuck(u64),
-    /// As many steps were made as were allowed.
-    Unfinished(u64),
-    /// The next step traps.
-    Trap(TrapKind, u64),
+    /// All slots are free.
+    Ended,
+    /// A slot has a stream, and none is ready.
+    Stuck,
+    /// As many steps were made as were allowed, or the chooser named no stream.
+    Unfinished,
+    /// The chooser named a stream that is not ready, after so many steps.
+    BadChoice(u64),
+    /// The step of a stream traps.
+    Trap { kind: TrapKind, stream: u32 },
+    /// A new segment would pass the limit on live words, or all numbers of segments are used up.
+    WordsFull { live: u64, asked: u64 },
+    /// What is printed would pass the limit on output.
+    OutFull { length: u64, piece: u64 },
     /// The host's memory is used up.
     NoMemory,
 }
 
-impl Machine {
-    ghost use Rattle.xc_machine.specs.Answers.{state_of, EndsBy};
-
-    /// The machine as the code begins. None: the host's memory is used up.
-    pub fn new(alloc: Global, code: &Code) -> Option<Machine>
-        requires { code.now.globals < 2 ^ 32 - 1 }
-        ensures { IfSome result (λ m. state_of m ≡ start code.now 1) }
+impl Machine<'_> {
+    /// Asks each stream anew whether it is ready.
+    fn refresh(&mut self)
+        ensures flags { self.new.ready ≡ ready_flags (code_of self.old) (state_of self.old) }
+        ensures state { state_of self.new ≡ state_of self.old }
+        ensures same { RunsSame self.old self.new }
     {
-        let memory = globals(alloc, code.globals)?;
-        let stream = Stream {
-            at: 0,
-            regs: [0; 32],
-        };
-        Some(Machine::starting(alloc, memory, stream, code.globals))
+        for s in 0..self.slots.len() as u32 {
+            let on = self.ready(s);
+            self.ready.set(s, on);
+        }
     }
 
-    /// Steps until the stream has ended or as many steps were made.
-    pub fn run(&mut self, code: &Code, limit: u64) -> End
-        ensures { EndsBy code.now limit (state_of self.old) (state_of self.new) result }
+    /// Whether all slots are free.
+    fn has_quit(&self) -> bool
+        ensures { IsTrue result ↔ HasQuit (state_of self.now) }
     {
-        for steps in 0..limit {
-            if self.has_quit() {
-                return End::Ended(steps);
+        are_free(&self.slots)
+    }
+
+    /// Ended or stuck. None: a stream is ready.
+    fn rest(&mut self) -> Option<End>
+        ensures rest { Rests (code_of self.old) (state_of self.old) result }
+        ensures flags { self.new.ready ≡ ready_flags (code_of self.old) (state_of self.old) }
+        ensures state { state_of self.new ≡ state_of self.old }
+        ensures same { RunsSame self.old self.new }
+    {
+        self.refresh();
+        if self.ready.count() > 0 {
+            None
+        } else if self.has_quit() {
+            Some(End::Ended)
+        } else {
+            Some(End::Stuck)
+        }
+    }
+
+    /// Steps until all slots are free, none can go on, so many steps were made by this call, or a step is refused. Which stream
+    /// steps is the chooser's choice among those that are ready.
+    pub fn run<C: Chooser>(&mut self, chooser: &mut C, limit: u64) -> End
+        ensures run { RunsTo C.picks (code_of self.old) (limits_of self.old) limit chooser.old (state_of self.old) (steps_of self.old) chooser.new (state_of self.new) (steps_of self.new) result }
+        ensures code { code_of self.new ≡ code_of self.old }
+        ensures limits { limits_of self.new ≡ limits_of self.old }
+    {
+        for made in 0..limit {
+            if let Some(end) = self.rest() {
+                return end;
             }
-            match self.step(code) {
+            let Some(s) = chooser.next(&self.ready) else {
+                return End::Unfinished;
+            };
+            match self.step(s) {
                 Stepped::Went => {}
-                Stepped::NotReady => return End::Stuck(steps),
-                Stepped::Trap(kind) => return End::Trap(kind, steps),
+                Stepped::NotReady => return End::BadChoice(made),
+                Stepped::Trap(kind) => return End::Trap { kind, stream: s },
+                Stepped::WordsFull { live, asked } => return End::WordsFull { live, asked },
+                Stepped::OutFull { length, piece } => return End::OutFull { length, piece },
                 Stepped::NoMemory => return End::NoMemory,
             }
         }
-        if self.has_quit() {
-            End::Ended(limit)
-        } else {
-            End::Unfinished(limit)
+        match self.rest() {
+            Some(end) => end,
+            None => End::Unfinished,
         }
     }
 }
 
-/// The segments of the globals, from 1 on, each of one cell. None: the host's memory is used up.
-fn globals(alloc: Global, count: u32) -> Option<Memory>
-    requires { count < 2 ^ 32 - 1 }
-    ensures { IfSome result (λ m. segs_in m ≡ segs_of (replicate count (fresh ∷ []))) }
+/// Whether all slots are free.
+fn are_free(slots: &[Option<Stream>]) -> bool
+    ensures { result ≡ list_all (λ o. is_none o) slots.now }
 {
-    let mut memory = Memory::new(alloc);
-    for global in 0..count {
-        match memory.add_segment(global + 1, 1) {
-            Ok(()) => {}
-            Err(_) => return None,
-        }
-    }
-    Some(memory)
+    slots.iter().all(|slot| slot.is_none())
 }

@@ -1,9 +1,10 @@
 //! A stream: its position and its registers.
 
-ghost use Rattle.std.specs.Prelude.{◌≡◌, ◌<◌, map, ◌∷◌, []};
-ghost use Rattle.xc_action.specs.World.{put};
+ghost use Rattle.std.specs.Prelude.{◌≡◌, Some, map};
 ghost use Rattle.xc_isa.specs.Effects.{read, printed_regs};
-ghost use Rattle.xc_machine.specs.Registers.{regs_of};
+ghost use Rattle.xc_isa.specs.Machine.{Live, begun as begun_of};
+ghost use Rattle.xc_machine.specs.Registers.{regs_of, answered};
+ghost use Rattle.xc_machine.specs.Shows.{slot_of};
 
 use xc_isa::Reg;
 
@@ -15,6 +16,28 @@ pub(crate) struct Stream {
 }
 
 impl Stream {
+    /// The stream that a machine starts with.
+    pub(crate) fn first() -> Stream
+        ensures { slot_of (Some result) ≡ Live 0 (λ x. 0) }
+    {
+        Stream {
+            at: 0,
+            regs: [0; 32],
+        }
+    }
+
+    /// A stream as it starts: r1 has the word.
+    pub(crate) fn begun(at: u32, word: u64) -> Stream
+        ensures { slot_of (Some result) ≡ begun_of at word }
+    {
+        let mut regs = [0; 32];
+        regs[1] = word;
+        Stream {
+            at: u64::from(at),
+            regs,
+        }
+    }
+
     /// What a register holds.
     pub(crate) fn read(&self, r: Reg) -> u64
         ensures { result ≡ read (regs_of self.now.regs) r }
@@ -42,24 +65,14 @@ impl Stream {
         ]
     }
 
-    /// The stream at another position, with a word in a register.
-    pub(crate) fn with(self, at: u64, d: Reg, word: u64) -> Stream
-        ensures at { result.at ≡ at }
-        ensures regs { regs_of result.regs ≡ put (regs_of self.regs) d word }
+    /// The stream goes on at another position, with a word in a register where one is named.
+    pub(crate) fn go(&mut self, at: u64, to: Option<Reg>, word: u64)
+        ensures at { self.new.at ≡ at }
+        ensures regs { regs_of self.new.regs ≡ answered (regs_of self.old.regs) to word }
     {
-        let mut stream = self;
-        stream.at = at;
-        stream.regs[d.number() as usize] = word;
-        stream
-    }
-
-    /// The stream at another position.
-    pub(crate) fn moved(self, at: u64) -> Stream
-        ensures at { result.at ≡ at }
-        ensures regs { result.regs ≡ self.regs }
-    {
-        let mut stream = self;
-        stream.at = at;
-        stream
+        self.at = at;
+        if let Some(d) = to {
+            self.regs[d.number() as usize] = word;
+        }
     }
 }

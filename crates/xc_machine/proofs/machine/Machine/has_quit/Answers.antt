@@ -1,6 +1,11 @@
-use Rattle.xc_machine.specs.Shows.{world_in}
-use Rattle.xc_machine.proofs.Quits.{quit_if}
+use Rattle.std.proofs.Common.{sym, ap, ◌∙◌, true}
+use Rattle.std.specs.Prelude.{is_none}
+use Rattle.std.specs.List.{list_all}
+use Rattle.xc_machine.proofs.RunLaws.{quits, quit_all}
 use Rattle.xc_machine.proofs.machine.Machine.has_quit.Goals as goal
 
 pub returns : goal.returns
-returns c = quit_if c.args.self.now.stream c.is_none.result (world_in c.args.self.now.memory c.args.self.now.output.items) c.args.self.now.last c.is_none.ensures
+returns c =
+    let xs = c.args.self.now.slots.items in
+    let is = c.are_free.ensures ∙ ap (list_all (λ o. is_none o)) c.deref.ensures.value in
+    (λ h. quits xs (sym is ∙ h), λ h. is ∙ quit_all xs h)

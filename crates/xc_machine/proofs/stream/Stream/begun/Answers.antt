@@ -1,0 +1,8 @@
+use Rattle.std.proofs.Common.{ap, ◌∙◌, sym}
+use Rattle.xc_isa.specs.Machine.{Live}
+use Rattle.xc_action.specs.World.{put}
+use Rattle.xc_machine.proofs.Slots.{begun_regs}
+use Rattle.xc_machine.proofs.stream.Stream.begun.Goals as goal
+
+pub returns : goal.returns
+returns c = ap (Live c.from.result) (begun_regs c.args.word) ∙ ap (λ p. Live p (put (λ x. 0) 1 c.args.word)) c.from.ensures
