@@ -1,3 +1,3 @@
-pub mod Ticks
-pub mod Works
-pub mod Tellings
+pub mod Fetches
+pub mod Sources
+pub mod Judging

@@ -1,101 +1,75 @@
 -- Why the top call answers as it does, and what it writes.
-use Rattle.std.specs.Prelude.{◌≡◌, ◌<◌, ◌≤◌, ◌+◌, ◌^◌, ◌⊎◌, ℕ, List, [], Option, Some, None, length, take, IfSome, SomeIndex}
+use Rattle.std.specs.Prelude.{◌≡◌, ◌⊎◌, ◌<◌, ◌≤◌, ◌+◌, ◌^◌, ℕ, List, [], Option, Some, None, length}
 use Rattle.xc_edge.specs.Counts.{Rises}
-use Rattle.xc_edge.specs.Gained.{gained}
-use Rattle.xc_meaning.specs.Programs.{Program}
-use Rattle.xc_narrow.specs.Grammar.{narrow}
-use Rattle.xc_top.specs.declared.status.Numbers.{Numbers}
+use Rattle.xc_words.specs.declared.command.Choice.{Choice}
+use Rattle.xc_words.specs.declared.command.Command.{Command}
+use Rattle.xc_words.specs.declared.command.Command.TheVariants.{Run, Exec}
+use Rattle.xc_words.specs.Commands.{file_in, options_in, schedule_in}
 use Rattle.xc_top.specs.declared.status.Status.{Status}
-use Rattle.xc_top.specs.declared.status.Status.TheVariants.{Ok, ReadFault, WriteFault, Usage, Long, Refused, NoMemory}
+use Rattle.xc_top.specs.declared.status.Status.TheVariants.{Ok, ReadFault, WriteFault, Usage, Long, Refused, Trap, Unfinished, Stuck, BadSchedule, WordsFull, OutFull, NoMemory}
 use Rattle.xc_top.specs.Lines.{line_of}
-use Rattle.xc_top.specs.Ran.{Ran}
+use Rattle.xc_top.specs.Seen.{ShelfSeen, SinkSeen, Told, Untouched, Whole, Part, Puts}
+use Rattle.xc_top.specs.Judges.{Judges}
 
 -- a source has at most 1 MiB
 abbrev pub source_limit : ℕ
 source_limit = 2 ^ 20
 
--- what a call did to a shelf: its files, where it tells them, and its counts before and after
-pub record ShelfSeen : Type 0 where
-  pub files : Option (List ℕ → Option (List ℕ))
-  pub faults_before : List ℕ → ℕ
-  pub faults_after : List ℕ → ℕ
-  pub taken_before : ℕ
-  pub taken_after : ℕ
+-- assembly and a schedule have at most 64 MiB
+abbrev pub text_limit : ℕ
+text_limit = 2 ^ 26
 
--- what a call did to a sink: what is written, where it tells that, and its count before and after
-pub record SinkSeen : Type 0 where
-  pub before : Option (List ℕ)
-  pub after : Option (List ℕ)
-  pub faults_before : ℕ
-  pub faults_after : ℕ
+abbrev pub limit_in : Command → ℕ
+limit_in (Run options file) = source_limit
+limit_in (Exec options file) = text_limit
 
--- where files are told, no fetch of the file failed, it is there, and this holds of its bytes
-abbrev pub Told : ShelfSeen → List ℕ → (List ℕ → Type 0) → Type 0
-Told shelf name P = IfSome shelf.files (λ file_of. (shelf.faults_after name ≡ shelf.faults_before name) × (text : List ℕ) × (file_of name ≡ Some text) × P text)
+-- the command names this file, which may have so many bytes
+abbrev pub Names : Command → List ℕ → ℕ → Type 0
+Names c name limit = ((name ≡ file_in c) × (limit ≡ limit_in c)) ⊎ ((schedule_in (options_in c).choice ≡ Some name) × (limit ≡ text_limit))
 
--- ---- sinks
+-- ---- what the fetches gave
 
-abbrev pub Untouched : SinkSeen → Type 0
-Untouched s = (s.after ≡ s.before) × (s.faults_after ≡ s.faults_before)
+-- the file has this text, which is short enough
+abbrev pub Has : ShelfSeen → List ℕ → ℕ → List ℕ → Type 0
+Has shelf name limit text = (length text ≤ limit) × Told shelf name (λ t. t ≡ text)
 
-abbrev pub Whole : List ℕ → SinkSeen → Type 0
-Whole text s = (s.after ≡ gained s.before text) × (s.faults_after ≡ s.faults_before)
+-- the schedule's text, where a schedule is named
+abbrev pub HasSchedule : ShelfSeen → Option (List ℕ) → Option (List ℕ) → Type 0
+HasSchedule shelf None schedule = schedule ≡ None
+HasSchedule shelf (Some name) None = ⊥
+HasSchedule shelf (Some name) (Some text) = Has shelf name text_limit text
 
--- a put failed, and a proper prefix of the text is there
-abbrev pub Part : List ℕ → SinkSeen → Type 0
-Part text s = Rises 1 s.faults_before s.faults_after × SomeIndex text (λ n. s.after ≡ gained s.before (take n text))
+-- a file that may have so many bytes could not be read, or is too long
+abbrev pub IsUnreadAt : List ℕ → ℕ → ShelfSeen → Status → Type 0
+IsUnreadAt name limit shelf (ReadFault n) = (n ≡ name) × Rises 1 (shelf.faults_before name) (shelf.faults_after name)
+IsUnreadAt name limit shelf (Long n) = (n ≡ name) × Rises (limit + 1) shelf.taken_before shelf.taken_after × Told shelf name (λ text. limit < length text)
+IsUnreadAt name limit shelf _ = ⊥
+
+-- so is a file of the command
+abbrev pub IsUnread : Command → ShelfSeen → Status → Type 0
+IsUnread c shelf status = (name : List ℕ) × (limit : ℕ) × Names c name limit × IsUnreadAt name limit shelf status
 
 -- ---- causes
 
--- the file's text is narrow, and its program's code has run to its end
-pub record Worked (name : List ℕ) (shelf : ShelfSeen) (numbers : Numbers) (out : List ℕ) : Type 0 where
-  pub program : Program
-  pub text : Told shelf name (λ text. (length text ≤ source_limit) × (narrow text ≡ Some program))
-  pub ran : Ran program numbers.steps out
-  pub streams : numbers.streams ≡ 1
+-- Why a status is the answer, and what goes to out and to err.
+pub data Cause (command : Option Command) (shelf : ShelfSeen) (status : Status) (out err : List ℕ) : Type 0 where
+  NoCommand : command ≡ None → status ≡ Usage → out ≡ [] → err ≡ line_of status → Cause command shelf status out err
+  NotRead : (c : Command) → command ≡ Some c → IsUnread c shelf status → out ≡ [] → err ≡ line_of status → Cause command shelf status out err
+  Judged : (c : Command) → command ≡ Some c → (text : List ℕ) → Has shelf (file_in c) (limit_in c) text
+      → (schedule : Option (List ℕ)) → HasSchedule shelf (schedule_in (options_in c).choice) schedule
+      → Judges c text schedule status out err → Cause command shelf status out err
 
--- why a status other than WriteFault is the answer; out is what goes to out
-abbrev pub Cause : Option (List ℕ) → ShelfSeen → List ℕ → Status → Type 0
-Cause file shelf out (Ok numbers) = (name : List ℕ) × (file ≡ Some name) × Worked name shelf numbers out
-Cause file shelf out (ReadFault name) = (file ≡ Some name) × Rises 1 (shelf.faults_before name) (shelf.faults_after name)
-Cause file shelf out WriteFault = ⊥
-Cause file shelf out Usage = file ≡ None
-Cause file shelf out (Long name) = (file ≡ Some name) × Rises (source_limit + 1) shelf.taken_before shelf.taken_after × Told shelf name (λ text. source_limit < length text)
-Cause file shelf out (Refused name kind at) = (file ≡ Some name) × (at.line ≡ 1) × (at.col ≡ 1) × Told shelf name (λ text. (length text ≤ source_limit) × (narrow text ≡ None))
-Cause file shelf out NoMemory = Unit {0}
+-- ---- answers
 
--- the line of the status on err, or a proper prefix of it where a put failed; out is left alone
-abbrev pub Says : Status → SinkSeen → SinkSeen → Type 0
-Says status out err = Untouched out × (Whole (line_of status) err ⊎ Part (line_of status) err)
+-- Out is written before err, and after a failed put nothing more goes to that sink. Where the run ended, a failed put is the
+-- answer, and where it was on out, nothing goes to err; any other status stands.
+abbrev pub Writes : Status → List ℕ → List ℕ → SinkSeen → SinkSeen → Status → Type 0
+Writes (Ok n) o e out err status =
+    ((status ≡ Ok n) × Whole o out × Whole e err) ⊎ ((status ≡ WriteFault) × ((Part o out × Untouched err) ⊎ (Whole o out × Part e err)))
+Writes planned o e out err status = (status ≡ planned) × Puts o out × Puts e err
 
--- What an answer tells. Out is written before err; after a failed put nothing more goes to that sink.
-abbrev pub Tells : Option (List ℕ) → ShelfSeen → SinkSeen → SinkSeen → Status → Type 0
-Tells file shelf out err (Ok numbers) = (text : List ℕ) × Cause file shelf text (Ok numbers) × Whole text out × Whole (line_of (Ok numbers)) err
-Tells file shelf out err WriteFault = (text : List ℕ) × (numbers : Numbers) × Cause file shelf text (Ok numbers) × ((Part text out × Untouched err) ⊎ (Whole text out × Part (line_of (Ok numbers)) err))
-Tells file shelf out err (ReadFault name) = Cause file shelf [] (ReadFault name) × Says (ReadFault name) out err
-Tells file shelf out err Usage = Cause file shelf [] Usage × Says Usage out err
-Tells file shelf out err (Long name) = Cause file shelf [] (Long name) × Says (Long name) out err
-Tells file shelf out err (Refused name kind at) = Cause file shelf [] (Refused name kind at) × Says (Refused name kind at) out err
-Tells file shelf out err NoMemory = Says NoMemory out err
-
--- ---- the parts of an answer
-
--- a status that is said on err alone
-abbrev pub IsSaid : Status → Type 0
-IsSaid (Ok numbers) = ⊥
-IsSaid (ReadFault name) = Unit {0}
-IsSaid WriteFault = ⊥
-IsSaid Usage = Unit {0}
-IsSaid (Long name) = Unit {0}
-IsSaid (Refused name kind at) = Unit {0}
-IsSaid NoMemory = ⊥
-
--- a text was put whole, or a put failed
-abbrev pub Puts : List ℕ → SinkSeen → Type 0
-Puts text s = Whole text s ⊎ Part text s
-
--- how the end of a run is written, and what is answered then
-abbrev pub Finished : Numbers → List ℕ → SinkSeen → SinkSeen → Status → Type 0
-Finished numbers text out err (Ok n) = (n ≡ numbers) × Whole text out × Whole (line_of (Ok numbers)) err
-Finished numbers text out err WriteFault = (Part text out × Untouched err) ⊎ (Whole text out × Part (line_of (Ok numbers)) err)
-Finished numbers text out err _ = ⊥
+-- What an answer tells: why it came and what was written; want of memory comes before the first put.
+abbrev pub Tells : Option Command → ShelfSeen → SinkSeen → SinkSeen → Status → Type 0
+Tells command shelf out err status =
+    ((status ≡ NoMemory) × Untouched out × Puts (line_of NoMemory) err)
+    ⊎ ((planned : Status) × (o : List ℕ) × (e : List ℕ) × Cause command shelf planned o e × Writes planned o e out err status)

@@ -1,6 +1,5 @@
 pub mod Codes
 pub mod Lines
-pub mod Command
-pub mod Ran
+pub mod Seen
+pub mod Judges
 pub mod Answers
-pub mod Plans

@@ -1,14 +1,15 @@
 //! The top call: from the words of the command line to a status, over any shelf and any two sinks.
 #![tactic(auto)]
 
-mod answer;
+mod fetch;
+mod judge;
 mod lines;
 mod status;
 mod top;
-mod words;
 
-pub use status::{FileKind, Name, Numbers, Status};
+pub use status::{Bad, FileKind, Numbers, Status};
 pub use top::xmtc;
+pub use xc_words::Name;
 
 #[cfg(test)]
 mod tests;

@@ -1,44 +1,17 @@
 //! What the top call answers.
 
-ghost use Rattle.std.specs.Prelude.{◌≡◌, string_bytes, IfOk};
+ghost use Rattle.std.specs.Prelude.{◌≡◌};
 ghost use Rattle.xc_top.specs.Codes.{code_of};
 
-use std::alloc::{AllocError, Global};
-use std::marker::Model;
+use xc_isa::TrapKind;
 use xc_span::Pos;
-
-/// The name of a file.
-#[derive(Debug, Drop)]
-pub struct Name {
-    text: String,
-}
-
-impl Model for Name {
-    ghost use Rattle.std.specs.Prelude.{List, ℕ, string_bytes};
-
-    ghost Value = { List ℕ };
-
-    ghost view = { λ n. string_bytes n.text };
-}
-
-impl Name {
-    pub fn new(alloc: Global, text: &str) -> Result<Name, AllocError>
-        ensures { IfOk result (λ n. n ≡ text.now) }
-    {
-        let text = String::from_str(alloc, text)?;
-        Ok(Name { text })
-    }
-
-    pub fn as_str(&self) -> &str
-        ensures { result.now ≡ self.now }
-    {
-        self.text.as_str()
-    }
-}
+use xc_words::Name;
 
 /// Why a file is refused.
 #[derive(Clone, Copy, Debug, PartialEq, Eq)]
 pub enum FileKind {
+    /// The text is no assembly.
+    Asm,
     /// The text may be a program, but not one that is translated today.
     Unbuilt,
 }
@@ -48,6 +21,15 @@ pub enum FileKind {
 pub struct Numbers {
     pub steps: u64,
     pub streams: u32,
+}
+
+/// What is wrong with a schedule.
+#[derive(Debug, Drop)]
+pub enum Bad {
+    /// The text of the file is no schedule: its first bad line.
+    Line { name: Name, line: u32 },
+    /// After so many steps it names a stream that is not ready, or is not used up.
+    Entry(Numbers),
 }
 
 /// How the top call ended.
@@ -64,7 +46,34 @@ pub enum Status {
     /// The file is longer than its limit.
     Long(Name),
     /// The file is not what the command takes.
-    Refused { name: Name, kind: FileKind, at: Pos },
+    Refused {
+        name: Name,
+        kind: FileKind,
+        at: Pos,
+    },
+    /// The step of a stream traps.
+    Trap {
+        kind: TrapKind,
+        stream: u32,
+        numbers: Numbers,
+    },
+    /// As many steps were made as were allowed, or the schedule was used up, and a stream is ready.
+    Unfinished(Numbers),
+    /// A stream has not ended, and none is ready.
+    Stuck(Numbers),
+    BadSchedule(Bad),
+    /// More words would be live than may be, or all numbers of segments are used up.
+    WordsFull {
+        live: u64,
+        asked: u64,
+        numbers: Numbers,
+    },
+    /// More would be printed than may be.
+    OutFull {
+        length: u64,
+        piece: u64,
+        numbers: Numbers,
+    },
     /// The host's memory is used up.
     NoMemory,
 }
@@ -79,6 +88,11 @@ impl Status {
             Status::ReadFault(_) | Status::WriteFault => 1,
             Status::Usage => 2,
             Status::Long(_) | Status::Refused { .. } => 3,
+            Status::Trap { .. } => 4,
+            Status::Unfinished(_) => 5,
+            Status::Stuck(_) => 6,
+            Status::BadSchedule(_) => 7,
+            Status::WordsFull { .. } | Status::OutFull { .. } => 9,
             Status::NoMemory => 10,
         }
     }

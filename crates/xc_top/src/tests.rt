@@ -1,5 +1,6 @@
 use super::*;
 use std::alloc::Global;
+use std::process::Abort;
 use std::test::Fail;
 use xc_edge::{MemShelf, MemSink};
 
@@ -13,15 +14,32 @@ struct Left {
 
 const SUM: &str = "int x; int main(){ x = 2 + 3 * 4; printf(\"%ld\\n\", x); return 0; }";
 
-/// Runs a command line over one file, `t.c`; the puts on out with the numbers in `failing` fail.
-fn run(alloc: Global, line: &str, text: &[u8], failing: &[u64]) -> Result<Left, Fail> {
+const E1: &str =
+    "xmtasm 1\nglobal 1\ncells 1 0 full\nformat 256c640a\ncode\nli 24 14\nprint 0\nquit\n";
+
+const E2: &str = "xmtasm 1\ncode\nli 1 3\nnewseg 2 1\nquit\n";
+
+const E3: &str = "xmtasm 1\nglobal 1\ncells 1 0 empty\ncode\nli 1 4294967296\nldfe 2 1 0\nquit\n";
+
+const TWO: &str =
+    "xmtasm 1\nformat 61\nformat 62\ncode\ncreate 2 0 4\nprint 0\nprint 0\nquit\nprint 1\nprint 1\nquit\n";
+
+const USAGE: &str = "usage: xmtc COMMAND [OPTIONS] FILE\n";
+
+/// Runs a command line over files; the puts on out with the numbers in `failing` fail.
+fn run(alloc: Global, line: &str, files: &[(&str, &str)], failing: &[u64]) -> Result<Left, Fail> {
     let mut words = Vec::new(alloc);
     for word in line.split_whitespace() {
         words.push(String::from_str(alloc, word)?)?;
     }
-    let mut files = Vec::new(alloc);
-    files.push((String::from_str(alloc, "t.c")?, text.to_vec(alloc)?))?;
-    let mut shelf = MemShelf::new(alloc, files, Vec::new(alloc));
+    let mut kept = Vec::new(alloc);
+    for (name, text) in files {
+        kept.push((
+            String::from_str(alloc, name)?,
+            text.as_bytes().to_vec(alloc)?,
+        ))?;
+    }
+    let mut shelf = MemShelf::new(alloc, kept, Vec::new(alloc));
     let mut out = MemSink::new(alloc, 4096, failing.to_vec(alloc)?)?;
     let mut err = MemSink::new(alloc, 4096, Vec::new(alloc))?;
     let status = xmtc(alloc, words.as_slice(), &mut shelf, &mut out, &mut err);
@@ -33,19 +51,43 @@ fn run(alloc: Global, line: &str, text: &[u8], failing: &[u64]) -> Result<Left, 
 }
 
 #[test]
-fn command_lines(rt: HostRuntime) -> Result<(), Fail> {
-    let usage = "usage: xmtc COMMAND [OPTIONS] FILE\n";
+fn narrow_texts(rt: HostRuntime) -> Result<(), Fail> {
     let rows = [
-        ("run t.c", SUM, 0, "14\n", "ended steps=21 streams=1\n"),
-        ("", SUM, 2, "", usage),
-        ("run", SUM, 2, "", usage),
-        ("run --help", SUM, 2, "", usage),
+        ("run t.c", SUM, 0, "14\n", "ended steps=21 streams=8\n"),
+        (
+            "run --streams 1 t.c",
+            SUM,
+            0,
+            "14\n",
+            "ended steps=21 streams=1\n",
+        ),
+        (
+            "run --seed 7 t.c",
+            SUM,
+            0,
+            "14\n",
+            "ended steps=21 streams=8\n",
+        ),
+        (
+            "run --steps=20 t.c",
+            SUM,
+            5,
+            "14\n",
+            "unfinished steps=20 streams=8\n",
+        ),
+        (
+            "run --words 1 t.c",
+            SUM,
+            9,
+            "",
+            "words live=1 asked=128 steps=1 streams=8\n",
+        ),
         ("run u.c", SUM, 1, "", "xmtc: cannot read u.c\n"),
         ("run t.c", "int x", 3, "", "xmtc: t.c:1:1: unbuilt\n"),
     ];
     let alloc = rt.alloc();
     for (line, text, code, out, err) in rows {
-        let left = run(alloc, line, text.as_bytes(), &[])?;
+        let left = run(alloc, line, &[("t.c", text)], &[])?;
         assert_eq!(rt; left.code, code, "{line}");
         assert_eq!(rt; left.out.as_slice(), out.as_bytes(), "{line}");
         assert_eq!(rt; left.err.as_slice(), err.as_bytes(), "{line}");
@@ -53,23 +95,332 @@ fn command_lines(rt: HostRuntime) -> Result<(), Fail> {
     Ok(())
 }
 
-#[test]
-fn a_failed_put_is_a_write_fault(rt: HostRuntime) -> Result<(), Fail> {
-    let left = run(rt.alloc(), "run t.c", SUM.as_bytes(), &[0])?;
-    assert_eq!(rt; left.code, 1);
-    assert!(rt; left.out.is_empty());
-    assert!(rt; left.err.is_empty());
+/// Each row is a command line, the assembly, the lines of the schedule, the code, and what stands on out and on err.
+fn check(
+    rt: &impl Abort,
+    alloc: Global,
+    rows: &[(&str, &str, &str, u8, &str, &str)],
+) -> Result<(), Fail> {
+    for (line, text, steps, code, out, err) in rows {
+        let mut schedule = String::from_str(alloc, "schedule 1\n")?;
+        schedule.push_str(steps)?;
+        let code_text = String::from_str(alloc, text)?;
+        let files = [("a.s", code_text.as_str()), ("s", schedule.as_str())];
+        let left = run(alloc, line, &files, &[])?;
+        assert_eq!(rt; left.code, *code, "{line}: {text}");
+        assert_eq!(rt; left.out.as_slice(), out.as_bytes(), "{line}: {text}");
+        assert_eq!(rt; left.err.as_slice(), err.as_bytes(), "{line}: {text}");
+    }
     Ok(())
 }
 
 #[test]
-fn a_file_has_a_limit(rt: HostRuntime) -> Result<(), Fail> {
-    let alloc = rt.alloc();
-    let mut text = Vec::new(alloc);
-    for _ in 0..(1u32 << 20) + 1 {
-        text.push(b' ')?;
+fn assembly(rt: HostRuntime) -> Result<(), Fail> {
+    let rows = [
+        ("exec a.s", E1, "", 0, "14\n", "ended steps=3 streams=8\n"),
+        (
+            "exec --record a.s",
+            E1,
+            "",
+            0,
+            "14\n",
+            "ended steps=3 streams=8\nschedule 1\n0 3\n",
+        ),
+        (
+            "exec --schedule s a.s",
+            E1,
+            "0 2\n",
+            5,
+            "14\n",
+            "unfinished steps=2 streams=8\n",
+        ),
+        (
+            "exec --schedule s a.s",
+            E1,
+            "0 1\n1 1\n",
+            7,
+            "",
+            "badchoice step=1 steps=1 streams=8\n",
+        ),
+        (
+            "exec --record --schedule s a.s",
+            E1,
+            "0 1\n1 1\n",
+            7,
+            "",
+            "badchoice step=1 steps=1 streams=8\nschedule 1\n0 1\n1 1\n",
+        ),
+        (
+            "exec --schedule s a.s",
+            E1,
+            "0 4\n",
+            7,
+            "14\n",
+            "badchoice step=3 steps=3 streams=8\n",
+        ),
+        (
+            "exec --schedule s a.s",
+            E1,
+            "0 0\n",
+            7,
+            "",
+            "xmtc: s:2:1: schedule\n",
+        ),
+        (
+            "exec --steps 2 a.s",
+            E1,
+            "",
+            5,
+            "14\n",
+            "unfinished steps=2 streams=8\n",
+        ),
+        (
+            "exec --steps 3 a.s",
+            E1,
+            "",
+            0,
+            "14\n",
+            "ended steps=3 streams=8\n",
+        ),
+        (
+            "exec --out 3 a.s",
+            E1,
+            "",
+            0,
+            "14\n",
+            "ended steps=3 streams=8\n",
+        ),
+        (
+            "exec --out 2 a.s",
+            E1,
+            "",
+            9,
+            "",
+            "output length=0 piece=3 steps=1 streams=8\n",
+        ),
+        (
+            "exec --words 3 a.s",
+            E2,
+            "",
+            0,
+            "",
+            "ended steps=3 streams=8\n",
+        ),
+        (
+            "exec --words 2 a.s",
+            E2,
+            "",
+            9,
+            "",
+            "words live=0 asked=3 steps=1 streams=8\n",
+        ),
+        (
+            "exec --words 1 a.s",
+            "xmtasm 1\nglobal 2\ncells 2 0 full\ncode\nquit\n",
+            "",
+            9,
+            "",
+            "words live=0 asked=2 steps=0 streams=8\n",
+        ),
+        (
+            "exec a.s",
+            "xmtasm 1\ncode\njmp 7\n",
+            "",
+            4,
+            "",
+            "trap jump stream=0 steps=1 streams=8\n",
+        ),
+        (
+            "exec a.s",
+            "xmtasm 1\ncode\n",
+            "",
+            4,
+            "",
+            "trap jump stream=0 steps=0 streams=8\n",
+        ),
+        (
+            "exec a.s",
+            "xmtasm 1\ncode\nli 1 4294967295\njr 1\n",
+            "",
+            4,
+            "",
+            "trap jump stream=0 steps=2 streams=8\n",
+        ),
+        (
+            "exec a.s",
+            "xmtasm 1\ncode\nprint 9\n",
+            "",
+            4,
+            "",
+            "trap format stream=0 steps=0 streams=8\n",
+        ),
+        (
+            "exec a.s",
+            "xmtasm 1\ncode\nnewseg 1 0\n",
+            "",
+            4,
+            "",
+            "trap size stream=0 steps=0 streams=8\n",
+        ),
+        (
+            "exec a.s",
+            "xmtasm 1\ncode\nfree 0\n",
+            "",
+            4,
+            "",
+            "trap place stream=0 steps=0 streams=8\n",
+        ),
+        (
+            "exec --streams=1 a.s",
+            "xmtasm 1\ncode\ntrap 3\n",
+            "",
+            4,
+            "",
+            "trap code stream=0 steps=0 streams=1\n",
+        ),
+        ("exec a.s", E3, "", 6, "", "stuck steps=1 streams=8\n"),
+        ("exec a.s", "xmtasm 2\n", "", 3, "", "xmtc: a.s:1:1: asm\n"),
+        (
+            "exec a.s",
+            "xmtasm 1\ncode\nquit\nhalt\n",
+            "",
+            3,
+            "",
+            "xmtc: a.s:4:1: asm\n",
+        ),
+        (
+            "exec --schedule u a.s",
+            "xmtasm 2\n",
+            "",
+            1,
+            "",
+            "xmtc: cannot read u\n",
+        ),
+        (
+            "exec --streams 1 a.s",
+            TWO,
+            "",
+            0,
+            "aa",
+            "ended steps=4 streams=1\n",
+        ),
+        (
+            "exec --streams 2 a.s",
+            TWO,
+            "",
+            0,
+            "baba",
+            "ended steps=7 streams=2\n",
+        ),
+    ];
+    check(&rt, rt.alloc(), &rows)
+}
+
+fn check_usage(rt: &impl Abort, alloc: Global, lines: &[&str]) -> Result<(), Fail> {
+    for line in lines {
+        let left = run(alloc, line, &[("a.s", E1), ("s", "schedule 1\n")], &[])?;
+        assert_eq!(rt; left.code, 2, "{line}");
+        assert_eq!(rt; left.err.as_slice(), USAGE.as_bytes(), "{line}");
+        assert!(rt; left.out.is_empty());
     }
-    let left = run(alloc, "run t.c", text.as_slice(), &[])?;
+    Ok(())
+}
+
+#[test]
+fn words_that_are_no_command(rt: HostRuntime) -> Result<(), Fail> {
+    let lines = [
+        "",
+        "run",
+        "exec",
+        "halt a.s",
+        "run --help",
+        "exec a.s b.s",
+        "exec --streams 0 a.s",
+        "exec --streams 1025 a.s",
+        "exec --streams 08 a.s",
+        "exec --streams +8 a.s",
+        "exec --streams= a.s",
+        "exec a.s --streams",
+        "exec --streams --record a.s",
+        "exec --streams 8 --streams 8 a.s",
+        "exec --seed 18446744073709551616 a.s",
+        "exec --seed 1 --seed 1 a.s",
+        "exec --seed 1 --schedule s a.s",
+        "exec --schedule -s a.s",
+        "exec --schedule= a.s",
+        "exec --steps 2147483649 a.s",
+        "exec --steps 5 --steps=5 a.s",
+        "exec --words 0 a.s",
+        "exec --words 16777217 a.s",
+        "exec --out 1048577 a.s",
+        "exec --out -1 a.s",
+        "exec --record --record a.s",
+        "exec --record=1 a.s",
+        "exec --fast a.s",
+        "exec -r a.s",
+    ];
+    check_usage(&rt, rt.alloc(), &lines)
+}
+
+#[test]
+fn behind_two_dashes_a_word_is_a_name(rt: HostRuntime) -> Result<(), Fail> {
+    let left = run(rt.alloc(), "exec -- --record", &[("a.s", E1)], &[])?;
+    assert_eq!(rt; left.code, 1);
+    assert_eq!(rt;
+        left.err.as_slice(),
+        b"xmtc: cannot read --record\n".as_slice()
+    );
+    Ok(())
+}
+
+/// A run by a seed, and the same run by its record.
+#[test]
+fn a_record_is_a_schedule(rt: HostRuntime) -> Result<(), Fail> {
+    let alloc = rt.alloc();
+    for seed in ["0", "1", "7", "12345"] {
+        let mut line = String::from_str(alloc, "exec --record --streams 2 a.s --seed ")?;
+        line.push_str(seed)?;
+        let first = run(alloc, line.as_str(), &[("a.s", TWO)], &[])?;
+        assert_eq!(rt; first.code, 0);
+        let text = str::from_utf8(first.err.as_slice()).ok().ok_or("a text")?;
+        let (_, record) = text.split_once('\n').ok_or("two lines")?;
+        let again = run(
+            alloc,
+            "exec --streams 2 --record --schedule s a.s",
+            &[("a.s", TWO), ("s", record)],
+            &[],
+        )?;
+        assert_eq!(rt; again.code, 0);
+        assert_eq!(rt; again.out.as_slice(), first.out.as_slice());
+        assert_eq!(rt; again.err.as_slice(), first.err.as_slice());
+    }
+    Ok(())
+}
+
+#[test]
+fn a_failed_put_on_out(rt: HostRuntime) -> Result<(), Fail> {
+    let alloc = rt.alloc();
+    let ended = run(alloc, "run t.c", &[("t.c", SUM)], &[0])?;
+    assert_eq!(rt; ended.code, 1);
+    assert!(rt; ended.out.is_empty() && ended.err.is_empty());
+    let cut = run(alloc, "exec --steps 2 a.s", &[("a.s", E1)], &[0])?;
+    assert_eq!(rt; cut.code, 5);
+    assert!(rt; cut.out.is_empty());
+    assert_eq!(rt;
+        cut.err.as_slice(),
+        b"unfinished steps=2 streams=8\n".as_slice()
+    );
+    Ok(())
+}
+
+#[test]
+fn a_source_has_a_limit(rt: HostRuntime) -> Result<(), Fail> {
+    let alloc = rt.alloc();
+    let mut text = String::new(alloc);
+    for _ in 0..(1u32 << 20) + 1 {
+        text.push_str(" ")?;
+    }
+    let left = run(alloc, "run t.c", &[("t.c", text.as_str())], &[])?;
     assert_eq!(rt; left.code, 3);
     assert_eq!(rt; left.err.as_slice(), b"xmtc: t.c: too long\n".as_slice());
     Ok(())

@@ -1,0 +1,85 @@
+-- What the texts decide, put together.
+use Rattle.std.proofs.Common.{◌≡◌, ◌≤◌, ℕ, List, [], Option, Some, None, Result, Ok, Err, refl, sym, ap, ◌∙◌, subst}
+use Rattle.std.specs.Prelude.{IfOk, MatchResult}
+use Rattle.xc_line.specs.Grammar.{IsFirstBad}
+use Rattle.xc_sched.specs.Runs.{Spells as SpellsSteps, IsSchedule}
+use Rattle.xc_isa.specs.declared.code.Code.{Code}
+use Rattle.xc_words.specs.declared.command.Choice.{Choice}
+use Rattle.xc_words.specs.declared.command.Choice.TheVariants as choice
+use Rattle.xc_words.specs.declared.command.Options.{Options}
+use Rattle.xc_words.specs.declared.command.Command.{Command}
+use Rattle.xc_words.specs.Commands.{options_in}
+use Rattle.xc_exec.specs.declared.source.Source.{Source}
+use Rattle.xc_exec.specs.declared.source.Source.TheVariants as source
+use Rattle.xc_exec.specs.declared.outcome.Ending.{Ending}
+use Rattle.xc_exec.specs.Plays.{Plays, IsRecord}
+use Rattle.xc_top.specs.declared.status.Bad.{Bad}
+use Rattle.xc_top.specs.declared.status.Bad.TheVariants.{Line}
+use Rattle.xc_top.specs.declared.status.Status.{Status}
+use Rattle.xc_top.specs.declared.status.Status.TheVariants.{BadSchedule}
+use Rattle.xc_top.specs.Lines.{line_of}
+use Rattle.xc_top.specs.Judges.{StandsFor, Chooses, IsBadSchedule, status_of, with_choices, Judges, NoSchedule, WasRun}
+use Rattle.xc_top.proofs.Sources.{sourced}
+
+pub ok_map : {A E : Type 0} {P Q : A → Type 0} (r : Result A E) → ((x : A) → P x → Q x) → IfOk r P → IfOk r Q
+ok_map (Ok x) f h = f x h
+ok_map (Err e) f h = h
+
+pub ok_of : {A E : Type 0} (P : A → Type 0) (Q : E → Type 0) (r : Result A E) (x : A) → r ≡ Ok x → MatchResult r P Q → P x
+ok_of P Q r x e h = subst (λ r. MatchResult r P Q) e h
+
+pub err_of : {A E : Type 0} (P : A → Type 0) (Q : E → Type 0) (r : Result A E) (x : E) → r ≡ Err x → MatchResult r P Q → Q x
+err_of P Q r x e h = subst (λ r. MatchResult r P Q) e h
+
+-- what a schedule's text is
+spelled : (file text : List ℕ) (r : Result Source Bad) → MatchResult r (λ s. (steps : List ℕ) × SpellsSteps text steps × (s ≡ source.Schedule steps)) (λ bad. (k : ℕ) × (bad ≡ Line file k) × IsFirstBad IsSchedule text k)
+    → MatchResult r (λ s. Chooses (choice.Schedule file) (Some text) s) (λ bad. (name : List ℕ) × (k : ℕ) × (bad ≡ Line name k) × IsBadSchedule (choice.Schedule file) (Some text) name k)
+spelled file text (Ok s) h = h
+spelled file text (Err bad) h = (file, h.0, h.1, (refl, h.2))
+
+pub chosen : (c : Choice) (schedule : Option (List ℕ)) (file text : List ℕ) (r : Result Source Bad) → c ≡ choice.Schedule file → schedule ≡ Some text
+    → MatchResult r (λ s. (steps : List ℕ) × SpellsSteps text steps × (s ≡ source.Schedule steps)) (λ bad. (k : ℕ) × (bad ≡ Line file k) × IsFirstBad IsSchedule text k)
+    → MatchResult r (λ s. Chooses c schedule s) (λ bad. (name : List ℕ) × (k : ℕ) × (bad ≡ Line name k) × IsBadSchedule c schedule name k)
+chosen c schedule file text r e f h =
+    subst (λ x. MatchResult r (λ s. Chooses x schedule s) (λ bad. (name : List ℕ) × (k : ℕ) × (bad ≡ Line name k) × IsBadSchedule x schedule name k)) (sym e)
+    (subst (λ x. MatchResult r (λ s. Chooses (choice.Schedule file) x s) (λ bad. (name : List ℕ) × (k : ℕ) × (bad ≡ Line name k) × IsBadSchedule (choice.Schedule file) x name k)) (sym f) (spelled file text r h))
+
+pub was_run : (c : Command) (text : List ℕ) (schedule : Option (List ℕ)) (o : Options) (code : Code) (from : Source) (why : Ending) (steps : ℕ) (printed : List ℕ) (choices : Option (List ℕ)) (named : List ℕ) (streams : ℕ) (status : Status) (out err : List ℕ)
+    → o ≡ options_in c → StandsFor c text code → Chooses o.choice schedule from → Plays from code o why steps printed named → IsRecord o.recorded named choices
+    → streams ≡ o.streams → 1 ≤ streams → streams ≤ 1024
+    → status ≡ status_of why (record { steps = steps; streams = streams }) → out ≡ printed → err ≡ with_choices (line_of (status_of why (record { steps = steps; streams = streams }))) choices
+    → Judges c text schedule status out err
+was_run c text schedule o code from why steps printed choices named streams status out err options stands chooses plays recorded same some few is_status is_out says =
+    let count : streams ≡ (options_in c).streams = same ∙ ap (λ (x : Options). x.streams) options in
+    let P : Options → Type 0 = λ x. Plays from code x why steps out named in
+    let here = subst P options (subst (λ t. Plays from code o why steps t named) (sym is_out) plays) in
+    WasRun (record {
+      code = code;
+      stands = stands;
+      source = from;
+      chooses = subst (λ (x : Options). Chooses x.choice schedule from) options chooses;
+      why = why;
+      steps = steps;
+      named = named;
+      plays = here;
+      sourced = sourced c text from code (options_in c) why steps out named stands (subst (λ n. 1 ≤ n) count some) (subst (λ n. n ≤ 1024) count few) here;
+      is_status = is_status ∙ ap (λ n. status_of why (record { steps = steps; streams = n })) count;
+      choices = choices;
+      is_record = subst (λ (x : Options). IsRecord x.recorded named choices) options recorded;
+      says = says ∙ ap (λ s. with_choices (line_of s) choices) (sym is_status);
+    })
+
+pub no_schedule : (c : Command) (text : List ℕ) (schedule : Option (List ℕ)) (o : Options) (code : Code) (bad : Bad) (status : Status) (out err : List ℕ)
+    → o ≡ options_in c → StandsFor c text code → (name : List ℕ) × (k : ℕ) × (bad ≡ Line name k) × IsBadSchedule o.choice schedule name k
+    → status ≡ BadSchedule bad → out ≡ [] → err ≡ line_of (BadSchedule bad) → Judges c text schedule status out err
+no_schedule c text schedule o code bad status out err options stands h is_status silent says =
+    NoSchedule (record {
+      code = code;
+      stands = stands;
+      name = h.0;
+      line = h.1;
+      why = subst (λ (x : Options). IsBadSchedule x.choice schedule h.0 h.1) options h.3;
+      is_status = is_status ∙ ap BadSchedule h.2;
+      silent = silent;
+      says = says ∙ ap line_of (sym is_status);
+    })

@@ -1,0 +1,223 @@
+//! What a command answers to the texts of its files.
+
+ghost use Rattle.std.specs.Prelude.{◌≡◌, ◌≤◌, ◌^◌, ℕ, List, [], Some, None, length, IfOk, MatchResult};
+ghost use Rattle.std.specs.Option.{option_map};
+ghost use Rattle.xc_words.specs.Commands.{options_in};
+ghost use Rattle.xc_top.specs.Judges.{StandsFor, IsRefused, Chooses, IsBadSchedule, IsGiven, status_of, with_choices, Judges};
+ghost use Rattle.xc_top.specs.Lines.{line_of};
+ghost use Rattle.xc_asm.specs.Texts.{contents_of, Spells, IsAssembly};
+ghost use Rattle.xc_line.specs.Grammar.{IsFirstBad};
+ghost use Rattle.xc_sched.specs.Runs.{Spells as SpellsSteps, IsSchedule};
+ghost use Rattle.xc_narrow.specs.Grammar.{narrow};
+ghost use Rattle.xc_meaning.specs.Programs.{Program};
+ghost use Rattle.xc_gen.specs.Faithful.{Faithful, Ends, GoesOn};
+
+use crate::lines::line;
+use crate::status::{Bad, FileKind, Numbers, Status};
+use std::alloc::{AllocError, Global};
+use xc_asm::AsmFault;
+use xc_exec::{Ending, Outcome, Source, play};
+use xc_gen::code_of;
+use xc_isa::Code;
+use xc_sched::{SchedFault, read_schedule};
+use xc_span::Pos;
+use xc_words::{Choice, Command, Name};
+
+/// What there is to say and to write.
+#[derive(Drop)]
+pub(crate) struct Plan {
+    pub(crate) status: Status,
+    pub(crate) out: Vec<u8>,
+    pub(crate) err: Vec<u8>,
+}
+
+/// Why a text stands for no code.
+#[derive(Clone, Copy, Debug, PartialEq, Eq)]
+enum CodeFault {
+    Refused { kind: FileKind, line: u32 },
+    NoMemory,
+}
+
+impl From<AllocError> for CodeFault {
+    ghost use Rattle.std.specs.Prelude.{◌≡◌};
+    ghost use Rattle.xc_top.specs.declared.judge.CodeFault.TheVariants.{NoMemory};
+
+    ghost from_gives = { λ _ e. e ≡ NoMemory };
+
+    fn from(_: AllocError) -> CodeFault {
+        CodeFault::NoMemory
+    }
+}
+
+/// The code of assembly.
+fn assembled(alloc: Global, text: &[u8]) -> Result<Code, CodeFault>
+    requires { length text.now ≤ 2 ^ 26 }
+    ensures { MatchResult result (λ code. Spells text.now (contents_of code))
+        (λ e. (kind : FileKind) → (k : ℕ) → e ≡ CodeFault.Refused kind k → IsFirstBad IsAssembly text.now k × (kind ≡ FileKind.Asm)) }
+{
+    match xc_asm::read(alloc, text) {
+        Ok(code) => Ok(code),
+        Err(AsmFault::Line(line)) => Err(CodeFault::Refused {
+            kind: FileKind::Asm,
+            line,
+        }),
+        Err(AsmFault::NoMemory) => Err(CodeFault::NoMemory),
+    }
+}
+
+/// The code of a narrow text.
+fn compiled(alloc: Global, text: &[u8]) -> Result<Code, CodeFault>
+    ensures { MatchResult result (λ code. (p : Program) × (narrow text.now ≡ Some p) × Faithful p code × Ends p code × GoesOn code)
+        (λ e. (kind : FileKind) → (k : ℕ) → e ≡ CodeFault.Refused kind k → (narrow text.now ≡ None) × (kind ≡ FileKind.Unbuilt) × (k ≡ 1)) }
+{
+    match xc_narrow::parse(alloc, text)? {
+        Some(program) => Ok(code_of(alloc, program)?),
+        None => Err(CodeFault::Refused {
+            kind: FileKind::Unbuilt,
+            line: 1,
+        }),
+    }
+}
+
+/// The code that a file's text stands for.
+fn code_in(alloc: Global, command: &Command, text: &[u8]) -> Result<Code, CodeFault>
+    requires { length text.now ≤ 2 ^ 26 }
+    ensures { MatchResult result (λ code. StandsFor command.now text.now code)
+        (λ e. (kind : FileKind) → (k : ℕ) → e ≡ CodeFault.Refused kind k → IsRefused command.now text.now kind k) }
+{
+    match command {
+        Command::Run { .. } => compiled(alloc, text),
+        Command::Exec { .. } => assembled(alloc, text),
+    }
+}
+
+/// The steps of a schedule's text, or its first bad line.
+fn steps_in(alloc: Global, file: &Name, text: &[u8]) -> Result<Result<Source, Bad>, AllocError>
+    requires { length text.now ≤ 2 ^ 26 }
+    ensures { IfOk result (λ r. MatchResult r (λ s. (steps : List ℕ) × SpellsSteps text.now steps × (s ≡ Source.Schedule steps))
+        (λ bad. (k : ℕ) × (bad ≡ Bad.Line file.now k) × IsFirstBad IsSchedule text.now k)) }
+{
+    match read_schedule(alloc, text) {
+        Ok(steps) => Ok(Ok(Source::Schedule(steps))),
+        Err(SchedFault::Line(line)) => {
+            let name = Name::new(alloc, file.as_str())?;
+            Ok(Err(Bad::Line { name, line }))
+        }
+        Err(SchedFault::NoMemory) => Err(AllocError),
+    }
+}
+
+/// What chooses the streams, or what is wrong with the schedule.
+fn source_in(
+    alloc: Global,
+    choice: &Choice,
+    schedule: &Option<Vec<u8>>,
+) -> Result<Result<Source, Bad>, AllocError>
+    requires { IsGiven choice.now (option_map (λ v. v.items) schedule.now) }
+    ensures { IfOk result (λ r. MatchResult r (λ s. Chooses choice.now (option_map (λ v. v.items) schedule.now) s)
+        (λ bad. (name : List ℕ) × (k : ℕ) × (bad ≡ Bad.Line name k) × IsBadSchedule choice.now (option_map (λ v. v.items) schedule.now) name k)) }
+{
+    match choice {
+        Choice::Turns => Ok(Ok(Source::Turns)),
+        Choice::Seed(seed) => Ok(Ok(Source::Seed(*seed))),
+        Choice::Schedule(file) => match schedule {
+            Some(text) => steps_in(alloc, file, text.as_slice()),
+            None => unreachable!(),
+        },
+    }
+}
+
+/// The status of a run that ended so.
+fn status(ending: Ending, numbers: Numbers) -> Status
+    ensures { result ≡ status_of ending numbers }
+{
+    match ending {
+        Ending::Ended => Status::Ok(numbers),
+        Ending::Left | Ending::BadChoice => Status::BadSchedule(Bad::Entry(numbers)),
+        Ending::Stuck => Status::Stuck(numbers),
+        Ending::Unfinished => Status::Unfinished(numbers),
+        Ending::Trap { kind, stream } => Status::Trap {
+            kind,
+            stream,
+            numbers,
+        },
+        Ending::WordsFull { live, asked } => Status::WordsFull {
+            live,
+            asked,
+            numbers,
+        },
+        Ending::OutFull { length, piece } => Status::OutFull {
+            length,
+            piece,
+            numbers,
+        },
+    }
+}
+
+/// A status alone, with its line.
+pub(crate) fn said(alloc: Global, status: Status) -> Result<Plan, AllocError>
+    ensures { IfOk result (λ p. (p.status ≡ status) × (p.out.items ≡ []) × (p.err.items ≡ line_of status)) }
+{
+    let line = line(alloc, &status)?;
+    let err = Vec::from_slice(alloc, line.as_bytes())?;
+    Ok(Plan {
+        status,
+        out: Vec::new(alloc),
+        err,
+    })
+}
+
+fn refused(alloc: Global, name: &Name, kind: FileKind, line: u32) -> Result<Plan, AllocError>
+    ensures { IfOk result (λ p. (p.status ≡ Status.Refused name.now kind (record { line = line; col = 1 })) × (p.out.items ≡ []) × (p.err.items ≡ line_of (Status.Refused name.now kind (record { line = line; col = 1 })))) }
+{
+    let name = Name::new(alloc, name.as_str())?;
+    let at = Pos { line, col: 1 };
+    said(alloc, Status::Refused { name, kind, at })
+}
+
+/// The end of a run.
+fn ran(alloc: Global, outcome: Outcome, streams: u32) -> Result<Plan, AllocError>
+    ensures { IfOk result (λ p. (p.status ≡ status_of outcome.ending (record { steps = outcome.steps; streams = streams })) × (p.out.items ≡ outcome.out.items) × (p.err.items ≡ with_choices (line_of (status_of outcome.ending (record { steps = outcome.steps; streams = streams }))) (option_map (λ v. v.items) outcome.choices))) }
+{
+    let Outcome {
+        ending,
+        steps,
+        out,
+        choices,
+    } = outcome;
+    let status = status(ending, Numbers { steps, streams });
+    let line = line(alloc, &status)?;
+    let mut err = Vec::from_slice(alloc, line.as_bytes())?;
+    if let Some(choices) = choices {
+        err.extend_from_slice(choices.as_slice())?;
+    }
+    Ok(Plan { status, out, err })
+}
+
+/// What a command answers to the texts of its files: the file's, and that of a schedule where one is named.
+pub(crate) fn judge(
+    alloc: Global,
+    command: &Command,
+    text: &[u8],
+    schedule: &Option<Vec<u8>>,
+) -> Result<Plan, AllocError>
+    requires short { length text.now ≤ 2 ^ 26 }
+    requires given { IsGiven (options_in command.now).choice (option_map (λ v. v.items) schedule.now) }
+    ensures { IfOk result (λ p. Judges command.now text.now (option_map (λ v. v.items) schedule.now) p.status p.out.items p.err.items) }
+{
+    let code = match code_in(alloc, command, text) {
+        Ok(code) => code,
+        Err(CodeFault::Refused { kind, line }) => {
+            return refused(alloc, command.file(), kind, line);
+        }
+        Err(CodeFault::NoMemory) => return Err(AllocError),
+    };
+    let options = command.options();
+    match source_in(alloc, &options.choice, schedule)? {
+        Ok(source) => {
+            let outcome = play(alloc, &code, options, source)?;
+            ran(alloc, outcome, options.streams.number() as u32)
+        }
+        Err(bad) => said(alloc, Status::BadSchedule(bad)),
+    }
+}

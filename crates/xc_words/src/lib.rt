@@ -1,0 +1,12 @@
+//! The words of the command line, read to a command.
+#![tactic(auto)]
+
+mod command;
+mod given;
+mod options;
+mod within;
+mod words;
+
+pub use command::{Choice, Command, Name, Options};
+pub use within::{OutLimit, Steps, Streams, Within, WordLimit};
+pub use words::{WordsFault, read_command};
