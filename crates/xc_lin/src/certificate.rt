@@ -63,12 +63,19 @@ pub enum Why {
 /// The operator of a reduction.
 #[derive(Clone, Copy, Debug, PartialEq, Eq)]
 pub enum Op {
+    /// `+`
     Add,
+    /// `*`
     Multiply,
+    /// `&`
     And,
+    /// `|`
     Or,
+    /// `^`
     Xor,
+    /// `min`: the least value.
     Min,
+    /// `max`: the greatest value.
     Max,
 }
 

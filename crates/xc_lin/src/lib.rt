@@ -15,13 +15,11 @@ pub use certificate::{
 };
 pub use divisor::gcd;
 pub use plan::{
-    Classes, Conflict, Found, Guard, LoopPlan, Operand, Plan, Reason, Recurrence, Reduction, Side,
-    Target,
+    Classes, Conflict, Dealing, Found, Guard, LoopPlan, Obstacle, Operand, Part, Plan, Reason,
+    Recurrence, Reduction, Side, Target, Variable,
 };
 pub use region::{Range, Region, Tie};
-
-/// The place of a loop in its program, in text order from 0.
-pub type LoopId = u32;
+pub use xc_tree::LoopId;
 
 #[cfg(test)]
 mod tests;

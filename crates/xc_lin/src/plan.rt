@@ -2,8 +2,43 @@
 use crate::LoopId;
 use crate::certificate::{Letter, LoopCert, Op};
 use sqlite_items::Items;
+use xc_tree::{NotNormal, Schedule};
 
-/// Two references that may depend, and the byte offsets of their lines.
+/// How the iterations of a parallel loop are dealt out, and how many streams are asked for.
+#[derive(Clone, Copy, Debug, PartialEq, Eq)]
+pub struct Dealing {
+    pub schedule: Schedule,
+    /// From 1 to 1,024.
+    pub streams: u32,
+}
+
+/// What keeps a loop from being analysed.
+#[derive(Clone, Copy, Debug, PartialEq, Eq)]
+pub enum Obstacle {
+    /// It is not in normal form, for this reason.
+    Form(NotNormal),
+    /// It has more than 512 references.
+    Size,
+}
+
+/// A variable that the listing names, by its number.
+#[derive(Clone, Copy, Debug, PartialEq, Eq)]
+pub enum Variable {
+    /// A local of the loop's function.
+    Local(u32),
+    /// An object at file scope.
+    Global(u32),
+}
+
+/// The statements `first` to `end` - 1 of a distributed loop's body, and how they are run.
+#[derive(Clone, Copy, Debug, PartialEq, Eq)]
+pub struct Part {
+    pub first: u32,
+    pub end: u32,
+    pub letter: Letter,
+}
+
+/// Two references that may depend, by their numbers, and a byte offset in the line of each.
 #[derive(Clone, Copy, Debug, PartialEq, Eq)]
 pub struct Conflict {
     pub a: u32,
@@ -12,46 +47,71 @@ pub struct Conflict {
     pub b_at: u32,
 }
 
-/// Why a loop has its letter, with the numbers that the listing tells beyond the certificate and the
-/// recurrences of the plan. `at` is a byte offset in the line that is meant.
-#[derive(Clone, Copy, Debug, PartialEq, Eq)]
+/// Why a loop has its letter, with all that the listing's text tells of it: a variant for each letter.
+/// `at` is a byte offset of the source, in the line that is told.
+#[derive(Drop)]
 pub enum Reason {
+    /// `X`: serial by pragma.
     Pragma,
-    Asserted,
-    /// The nearest automatic loop around it.
+    /// `p`: parallel by the programmer's assertion.
+    Asserted(Dealing),
+    /// `I`: serial inside this loop, the nearest automatic one.
     Inside(LoopId),
-    /// Not in normal form, or with too many references.
-    NotNormal,
-    /// Where the first tagged access, generic function, future or asserted loop begins.
-    Synchronised { at: u32 },
-    /// Where the first print, call, inner loop or addressed object that is not allowed begins.
-    Calling { at: u32 },
-    /// Where the first changing address or inner bound begins.
-    Changing { at: u32 },
-    Parallel,
-    Trusted,
-    /// The reductions are those of the certificate.
-    Reducing,
-    /// The scalar or the named array of the recurrence.
-    Recurring(Operand),
-    /// The parts are those of the certificate.
-    Distributed,
-    /// The first local that is neither private nor a reduction.
+    /// `U`: serial, since it is not in normal form or too large.
+    NotNormal(Obstacle),
+    /// `Y`: where the first tagged access, generic function, future or Concurrent loop begins.
+    Synchronised {
+        at: u32,
+    },
+    /// `C`: where the first print, call, inner loop or addressed object that is not allowed begins.
+    Calling {
+        at: u32,
+    },
+    /// `Q`: where the first changing address or inner bound begins.
+    Changing {
+        at: u32,
+    },
+    /// `P`: parallel.
+    Parallel(Dealing),
+    /// `n`: parallel by a trusted assertion on its pointers.
+    Trusted(Dealing),
+    /// `R`: parallel, with these reductions in ascending order of their locals.
+    Reducing {
+        reductions: Items<Reduction>,
+        dealing: Dealing,
+    },
+    /// `L`: parallel, as a linear recurrence of a scalar or a named array.
+    Recurring {
+        target: Variable,
+        dealing: Dealing,
+    },
+    /// `D`: distributed over these parts, in order.
+    Distributed {
+        parts: Items<Part>,
+        dealing: Dealing,
+    },
+    /// `V`: serial, since this local, the first such one, is neither private nor a reduction.
     Carried(u32),
+    /// `A`: serial, since two references of different roots may be aliases.
     Aliased(Conflict),
+    /// `S`: serial, since two references may depend.
     Dependent(Conflict),
 }
 
 /// A value that the guard of a loop tests at the loop's entry.
 #[derive(Clone, Copy, Debug, PartialEq, Eq)]
 pub enum Operand {
+    /// The value of a local.
     Local(u32),
+    /// The value of a global.
     Global(u32),
     /// The value of that loop's first clause.
     Lower(LoopId),
     /// The value of the bound in that loop's test.
     Upper(LoopId),
+    /// The address of a local.
     LocalAddress(u32),
+    /// The address of a global.
     GlobalAddress(u32),
 }
 
@@ -66,8 +126,11 @@ pub struct Guard {
 /// Where a part stands of the right side of a recurrence.
 #[derive(Clone, Copy, Debug, PartialEq, Eq)]
 pub enum Side {
+    /// Left of the other operand.
     Left,
+    /// Right of it.
     Right,
+    /// Nowhere.
     Absent,
 }
 
@@ -117,7 +180,7 @@ pub struct Classes {
     pub scalars: Items<(u32, Found)>,
 }
 
-/// How one loop is to be run.
+/// How one loop is to be run: as `scans` its recurrences, and in parallel where its guard holds.
 #[derive(Drop)]
 pub struct LoopPlan {
     pub letter: Letter,

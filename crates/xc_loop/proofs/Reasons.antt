@@ -19,8 +19,8 @@ use Rattle.xc_tree.specs.declared.stmt.StmtKind.TheFolds as stmt_folds
 use Rattle.xc_tree.specs.declared.stmt.StmtKind.TheViews as stmt_views
 use Rattle.xc_tree.specs.declared.ty.Ty.TheFolds as ty_folds
 use Rattle.xc_tree.specs.declared.ty.Ty.TheViews as ty_views
-use Rattle.xc_loop.specs.declared.normal.NotNormal.{NotNormal}
-use Rattle.xc_loop.specs.declared.normal.NotNormal.TheVariants as reason
+use Rattle.xc_tree.specs.declared.stmt.NotNormal.{NotNormal}
+use Rattle.xc_tree.specs.declared.stmt.NotNormal.TheVariants as reason
 use Rattle.xc_loop.specs.declared.normal.Header.{Header}
 use Rattle.xc_loop.specs.Normal.{normal_form}
 use Rattle.xc_loop.specs.Concurrency.{is_concurrent, all_inside}

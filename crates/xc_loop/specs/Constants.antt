@@ -8,14 +8,7 @@ use Rattle.xc_tree.specs.declared.expr.Expr.{Expr}
 use Rattle.xc_tree.specs.declared.expr.ExprKind.TheOpen.{ExprKind-F}
 use Rattle.xc_tree.specs.declared.expr.ExprKind.TheFolds.{fold-Expr}
 use Rattle.xc_tree.specs.Types.{is_number}
-use Rattle.xc_value.specs.Words.{truth, binary_word, unary_word}
-
-abbrev pub uint_at : Ty-F Ty → Bool
-uint_at Ty-F.Uint = true
-uint_at _ = false
-
-abbrev pub is_uint : Ty → Bool
-is_uint ty = uint_at (out-Ty ty)
+use Rattle.xc_value.specs.Words.{works_on_uint, truth, binary_word, unary_word}
 
 abbrev pub int_at : Ty-F Ty → Bool
 int_at Ty-F.Int = true
@@ -23,15 +16,6 @@ int_at _ = false
 
 abbrev pub is_int : Ty → Bool
 is_int ty = int_at (out-Ty ty)
-
-abbrev pub is_shift : BinOp → Bool
-is_shift op.Shl = true
-is_shift op.Shr = true
-is_shift _ = false
-
--- the operation is on Uint: a shift by the type of its left operand, else where one operand is Uint (C99 6.3.1.8)
-abbrev pub works_on_uint : BinOp → Ty → Ty → Bool
-works_on_uint o a b = is_uint a || (not (is_shift o) && is_uint b)
 
 -- which trees are constants ----------------------------------------------
 

@@ -2,8 +2,7 @@
 use Rattle.std.specs.Prelude.{ℕ, Bool, false, ◌==◌, cond, List, [], ◌∷◌, ◌++◌, map, Option, Some, None}
 use Rattle.xc_word.specs.declared.memory.Kind.{Kind}
 use Rattle.xc_word.specs.declared.memory.Kind.TheVariants as kind
-use Rattle.xc_tree.specs.declared.ty.Ty.{Ty, out-Ty}
-use Rattle.xc_tree.specs.declared.ty.Ty.TheOpen.{Ty-F}
+use Rattle.xc_tree.specs.declared.ty.Ty.{Ty}
 use Rattle.xc_tree.specs.declared.pragmas.Root.{Root}
 use Rattle.xc_tree.specs.declared.pragmas.Root.TheVariants as root
 use Rattle.xc_tree.specs.declared.expr.Expr.{Expr}
@@ -14,37 +13,10 @@ use Rattle.xc_tree.specs.declared.stmt.Capture.{Capture}
 use Rattle.xc_tree.specs.declared.stmt.StmtKind.TheOpen.{StmtKind-F}
 use Rattle.xc_tree.specs.declared.stmt.StmtKind.TheFolds.{fold-Stmt}
 use Rattle.xc_tree.specs.Lists.{joined}
-use Rattle.xc_tree.specs.Types.{pointee, is_void, array_under}
+use Rattle.xc_tree.specs.Types.{is_void, array_under}
+use Rattle.xc_tree.specs.Kinds.{read_kind, write_kind}
 use Rattle.xc_loop.specs.declared.effect.Effect.{Effect}
 use Rattle.xc_loop.specs.declared.effect.Effect.TheVariants as effect
-
--- the kinds of access that a qualifier demands ---------------------------
-
-abbrev pub read_demanded : Ty-F Ty → Kind
-read_demanded (Ty-F.Sync of) = kind.ReadFe
-read_demanded (Ty-F.Future of) = kind.ReadFf
-read_demanded _ = kind.ReadXx
-
-abbrev pub write_demanded : Ty-F Ty → Kind
-write_demanded (Ty-F.Sync of) = kind.WriteEf
-write_demanded (Ty-F.Future of) = kind.WriteFf
-write_demanded _ = kind.WriteXf
-
-abbrev pub read_through : Option Ty → Kind
-read_through None = kind.ReadXx
-read_through (Some t) = read_demanded (out-Ty t)
-
-abbrev pub write_through : Option Ty → Kind
-write_through None = kind.WriteXf
-write_through (Some t) = write_demanded (out-Ty t)
-
--- how the object is read to which a pointer leads
-abbrev pub read_kind : Ty → Kind
-read_kind ty = read_through (pointee ty)
-
--- how it is written
-abbrev pub write_kind : Ty → Kind
-write_kind ty = write_through (pointee ty)
 
 -- expressions ------------------------------------------------------------
 

@@ -14,12 +14,13 @@ use Rattle.xc_tree.specs.declared.stmt.StmtKind.TheFolds.{fold-Stmt}
 use Rattle.xc_tree.specs.declared.tree.Local.{Local}
 use Rattle.xc_tree.specs.Lists.{some, passes}
 use Rattle.xc_loop.specs.declared.effect.Effect.{Effect}
-use Rattle.xc_loop.specs.declared.normal.NotNormal.{NotNormal}
-use Rattle.xc_loop.specs.declared.normal.NotNormal.TheVariants as reason
+use Rattle.xc_tree.specs.declared.stmt.NotNormal.{NotNormal}
+use Rattle.xc_tree.specs.declared.stmt.NotNormal.TheVariants as reason
 use Rattle.xc_loop.specs.declared.normal.Header.{Header}
 use Rattle.xc_loop.specs.declared.normal.Step.{Step}
 use Rattle.xc_loop.specs.Effects.{stmt_effects, local_of}
-use Rattle.xc_loop.specs.Constants.{is_int, is_uint, constant_of}
+use Rattle.xc_loop.specs.Constants.{is_int, constant_of}
+use Rattle.xc_value.specs.Words.{is_uint}
 use Rattle.xc_loop.specs.Changes.{is_assigned, is_unchanging}
 
 -- the first clause -------------------------------------------------------

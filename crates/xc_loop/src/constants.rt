@@ -2,10 +2,10 @@
 
 ghost use Rattle.std.specs.Prelude.{◌≡◌};
 ghost use Rattle.xc_tree.specs.Types.{is_number};
-ghost use Rattle.xc_loop.specs.Constants.{is_int, is_uint, works_on_uint, is_built, combined, conjunction, disjunction, chosen, value_of, constant_of};
+ghost use Rattle.xc_loop.specs.Constants.{is_int, is_built, combined, conjunction, disjunction, chosen, value_of, constant_of};
 
 use xc_tree::{BinOp, Expr, ExprKind, Ty};
-use xc_value::{binary, unary};
+use xc_value::{binary, unary, works_on_uint};
 
 pub(crate) fn is_int(ty: &Ty) -> bool
     ensures { result ≡ is_int ty.now }
@@ -16,30 +16,12 @@ pub(crate) fn is_int(ty: &Ty) -> bool
     }
 }
 
-pub(crate) fn is_uint(ty: &Ty) -> bool
-    ensures { result ≡ is_uint ty.now }
-{
-    match ty {
-        Ty::Uint => true,
-        _ => false,
-    }
-}
-
 fn is_number(ty: &Ty) -> bool
     ensures { result ≡ is_number ty.now }
 {
     match ty {
         Ty::Int | Ty::Uint => true,
         _ => false,
-    }
-}
-
-fn works_on_uint(op: BinOp, a: &Ty, b: &Ty) -> bool
-    ensures { result ≡ works_on_uint op a.now b.now }
-{
-    match op {
-        BinOp::Shl | BinOp::Shr => is_uint(a),
-        _ => is_uint(a) || is_uint(b),
     }
 }
 

@@ -2,7 +2,8 @@
 
 ghost use Rattle.std.specs.Prelude.{◌≡◌, ◌++◌, [], ◌∷◌, OnOk, IfOk};
 ghost use Rattle.xc_tree.specs.Types.{is_void, array_under};
-ghost use Rattle.xc_loop.specs.Effects.{root_of, array_root, local_of, is_zero, is_exact, read_kind, write_kind, written_root, expr_effects, exprs_effects, inits_effects, maybe_effects, captures_effects, start_effects, stmt_effects, stmts_effects};
+ghost use Rattle.xc_tree.specs.Kinds.{read_kind, write_kind};
+ghost use Rattle.xc_loop.specs.Effects.{root_of, array_root, local_of, is_zero, is_exact, written_root, expr_effects, exprs_effects, inits_effects, maybe_effects, captures_effects, start_effects, stmt_effects, stmts_effects};
 
 use sqlite_items::Items;
 use std::alloc::{AllocError, Global};
@@ -17,40 +18,18 @@ pub enum Effect {
     Set(u32),
     /// Declares a local, after its initialisers.
     Declare(u32),
+    /// Reads a cell.
     Read { root: Root, kind: Kind },
+    /// Writes or empties a cell, or adds to it.
     Write { root: Root, kind: Kind },
+    /// Calls the function with this number, after its arguments.
     Call(u32),
+    /// Prints.
     Print,
     /// Begins the loop with this id.
     Loop(u32),
     /// Starts a thread, whose body's effects follow.
     Future,
-}
-
-fn read_kind(ty: &Ty) -> Kind
-    ensures { result ≡ read_kind ty.now }
-{
-    let Ty::Ptr(to) = ty else {
-        return Kind::ReadXx;
-    };
-    match to.get() {
-        Ty::Sync(_) => Kind::ReadFe,
-        Ty::Future(_) => Kind::ReadFf,
-        _ => Kind::ReadXx,
-    }
-}
-
-fn write_kind(ty: &Ty) -> Kind
-    ensures { result ≡ write_kind ty.now }
-{
-    let Ty::Ptr(to) = ty else {
-        return Kind::WriteXf;
-    };
-    match to.get() {
-        Ty::Sync(_) => Kind::WriteEf,
-        Ty::Future(_) => Kind::WriteFf,
-        _ => Kind::WriteXf,
-    }
 }
 
 // Whether an index of the array at a place of this type stays within its bound.
@@ -157,7 +136,7 @@ fn read_in_place(place: &Expr) -> Effect
 {
     Effect::Read {
         root: root_of(place),
-        kind: read_kind(&place.ty),
+        kind: place.ty.read_kind(),
     }
 }
 
@@ -166,7 +145,7 @@ fn written_in_place(place: &Expr) -> Effect
 {
     Effect::Write {
         root: root_of(place),
-        kind: write_kind(&place.ty),
+        kind: place.ty.write_kind(),
     }
 }
 

@@ -13,8 +13,9 @@ pub use change::{is_assigned, is_unchanging};
 pub use concurrent::is_concurrent;
 pub use constants::constant;
 pub use effect::{Effect, effects_of, effects_of_expr, root_of};
-pub use normal::{Header, NotNormal, Step, normal_form};
+pub use normal::{Header, Step, normal_form};
 pub use pure::pure_functions;
+pub use xc_tree::NotNormal;
 
 #[cfg(test)]
 mod tests;

@@ -4,29 +4,11 @@ ghost use Rattle.std.specs.Prelude.{◌≡◌, IsTrue, IfOk, slice_get};
 ghost use Rattle.xc_loop.specs.Normal.{is_int_variable, index_of, is_order, is_local, order_of, bound_ok, step_by, constant_step, amount, sum_step, any_step, step_of, toward, exits, any_exits, with_body, normal_form, is_loop};
 
 use crate::change::{is_assigned, is_unchanging};
-use crate::constants::{constant, is_int, is_uint};
+use crate::constants::{constant, is_int};
 use crate::effect::{Effect, effects_of, local_of};
 use std::alloc::{AllocError, Global};
-use xc_tree::{BinOp, Expr, ExprKind, Local, LoopForm, Stmt, StmtKind};
-
-/// Why a loop is not in normal form: the first of these that holds.
-#[derive(Clone, Copy, Debug, PartialEq, Eq)]
-pub enum NotNormal {
-    While,
-    Do,
-    /// The first clause does not set one variable of type Int, which has no address, and that alone.
-    Index,
-    /// The test does not compare the index with a bound by `<`, `<=`, `>` or `>=`.
-    Test,
-    /// The bound is not of type Int, or not unchanging.
-    Bound,
-    /// The step is not by a constant of 1 to 2^20 in size, upward below a bound and downward above one.
-    Step,
-    /// The body assigns the index.
-    Assigned,
-    /// The body has a `break` of this loop or a `return`.
-    Exit,
-}
+use xc_tree::{BinOp, Expr, ExprKind, Local, LoopForm, NotNormal, Stmt, StmtKind};
+use xc_value::is_uint;
 
 /// What is added to the index, or taken from it.
 #[derive(Clone, Copy, Debug, PartialEq, Eq)]

@@ -1,3 +1,6 @@
 pub mod Lists
 pub mod Parts
-mod Refusals
+pub mod Samples
+mod Expressions
+mod Statements
+mod Programs

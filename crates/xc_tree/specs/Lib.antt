@@ -1,5 +1,6 @@
 pub mod Lists
 pub mod Types
+pub mod Kinds
 pub mod Formats
 pub mod Walk
 pub mod Typed

@@ -1,7 +1,10 @@
 -- When a statement is well typed (C99 6.8), when what leaves a body stands where it may, and which locals are seen where.
-use Rattle.std.specs.Prelude.{ℕ, Bool, true, false, ◌&&◌, nat_lt, nat_le, is_some, is_none, List, [], ◌∷◌, ◌++◌, length, map, Option, Some, None, slice_get}
+use Rattle.std.specs.Prelude.{ℕ, Bool, true, false, ◌&&◌, ◌||◌, nat_lt, nat_le, is_some, is_none, List, [], ◌∷◌, ◌++◌, length, map, Option, Some, None, slice_get}
 use Rattle.xc_tree.specs.declared.ty.Ty.{Ty}
+use Rattle.xc_word.specs.declared.memory.Kind.TheVariants.{ReadXx}
 use Rattle.xc_tree.specs.declared.expr.Expr.{Expr}
+use Rattle.xc_tree.specs.declared.expr.ExprKind.{ExprKind, out-ExprKind}
+use Rattle.xc_tree.specs.declared.expr.ExprKind.TheOpen.{ExprKind-F}
 use Rattle.xc_tree.specs.declared.pragmas.Pragmas.{Pragmas}
 use Rattle.xc_tree.specs.declared.pragmas.Root.{Root}
 use Rattle.xc_tree.specs.declared.pragmas.Root.TheVariants as root
@@ -13,7 +16,7 @@ use Rattle.xc_tree.specs.declared.stmt.StmtKind.TheFolds.{fold-Stmt}
 use Rattle.xc_tree.specs.declared.stmt.Capture.{Capture}
 use Rattle.xc_tree.specs.declared.tree.Local.{Local}
 use Rattle.xc_tree.specs.Lists.{every, has, ascending, passes, allows}
-use Rattle.xc_tree.specs.Types.{same_ty, is_void, is_plain, holds_pointer, fits, may_hold, cell_of, future_under}
+use Rattle.xc_tree.specs.Types.{same_ty, is_void, is_plain, holds_pointer, fits, may_hold, cell_of, pointee, future_under}
 use Rattle.xc_tree.specs.Typed.{Context, expr_ok, value_ok}
 use Rattle.xc_tree.specs.Walk.{locals_named}
 
@@ -30,21 +33,39 @@ init_ok cx l i = value_ok cx i.1 && passes (λ t. may_hold t i.1.ty) (cell_of cx
 abbrev pub inits_ok : Context → Option Local → List (ℕ × Expr) → Bool
 inits_ok cx l init = passes (λ l. every (map (init_ok cx l) init)) l
 
--- a copy is a plain scalar of its own
-abbrev pub capture_ok : Context → Capture → Bool
-capture_ok cx c = value_ok cx c.from && passes (λ l. is_plain l.ty && same_ty l.ty c.from.ty) (slice_get cx.locals c.local)
+abbrev pub object_named : ExprKind-F ExprKind Expr → Bool
+object_named (ExprKind-F.Global g) = true
+object_named (ExprKind-F.Auto x) = true
+object_named _ = false
 
+-- the value of a plain scalar variable, by its name
+abbrev pub variable_named : ExprKind-F ExprKind Expr → Bool
+variable_named (ExprKind-F.Local x) = true
+variable_named (ExprKind-F.Read ReadXx place) = object_named (out-ExprKind place.kind) && passes is_plain (pointee place.ty)
+variable_named _ = false
+
+-- a copy is a plain scalar of its own, and copies a variable
+abbrev pub capture_ok : Context → Capture → Bool
+capture_ok cx c = value_ok cx c.from && (variable_named (out-ExprKind c.from.kind)
+    && passes (λ l. is_plain l.ty && same_ty l.ty c.from.ty) (slice_get cx.locals c.local))
+
+-- a pragma names what is there
 abbrev pub root_ok : Context → Root → Bool
 root_ok cx (root.Global g) = nat_lt g (length cx.globals)
 root_ok cx (root.Local x) = nat_lt x (length cx.locals)
 root_ok cx (root.GlobalPointer g) = passes (λ g. holds_pointer g.ty) (slice_get cx.globals g)
 root_ok cx (root.LocalPointer x) = passes (λ l. holds_pointer l.ty) (slice_get cx.locals x)
-root_ok cx root.Other = true
+root_ok cx root.Other = false
 
--- from 1 to 1,024 streams, and roots that are there
+abbrev pub is_pointer_root : Root → Bool
+is_pointer_root (root.GlobalPointer g) = true
+is_pointer_root (root.LocalPointer x) = true
+is_pointer_root _ = false
+
+-- from 1 to 1,024 streams, and roots that are there; `noalias` names pointers
 unfoldable pub pragmas_ok : Context → Pragmas → Bool
-pragmas_ok cx p = nat_le 1 p.streams && (nat_le p.streams 1024
-    && (every (map (root_ok cx) p.nodep) && every (map (root_ok cx) p.noalias)))
+pragmas_ok cx p = nat_le 1 p.streams && (nat_le p.streams 1024 && (every (map (root_ok cx) p.nodep)
+    && every (map (λ r. is_pointer_root r && root_ok cx r) p.noalias)))
 
 abbrev pub stmt_step : Context → StmtKind-F Bool Bool → Bool
 stmt_step cx StmtKind-F.Empty = true
@@ -72,38 +93,43 @@ pub record Inside : Type 0 where
   pub ret : Ty
   pub looping : Bool
 
--- whether a statement may stand in the first clause of a `for`, and whether it leaves only what is around it
+-- whether a statement is a declaration, whether it is an expression, and whether it leaves only what is around it
 pub record Leaving : Type 0 where
-  pub clause : Bool
+  pub declares : Bool
+  pub evaluates : Bool
   pub ok : Inside → Bool
 
 abbrev pub returns : Option Expr → Ty → Bool
 returns None ret = is_void ret
 returns (Some e) ret = fits ret e.ty
 
--- `while` and `do` have a test alone; a `for` begins with declarations or an expression
+-- declarations, one expression or nothing
+abbrev pub clause_ok : List Leaving → Bool
+clause_ok (s ∷ []) = s.declares || s.evaluates
+clause_ok ss = every (map (λ s. s.declares) ss)
+
+-- `while` and `do` have a test alone
 abbrev pub header_ok : LoopForm → List Leaving → Option Expr → Option Expr → Bool
-header_ok form.For init test step = every (map (λ s. s.clause) init)
+header_ok form.For init test step = clause_ok init
 header_ok _ [] test step = is_some test && is_none step
 header_ok _ (s ∷ ss) test step = false
 
+abbrev pub acts : (Inside → Bool) → Leaving
+acts ok = record { declares = false; evaluates = false; ok = ok }
+
 abbrev pub leave_step : StmtKind-F Leaving Leaving → Leaving
-leave_step (StmtKind-F.Declare x init) = record { clause = true; ok = λ w. true }
-leave_step (StmtKind-F.Eval e) = record { clause = true; ok = λ w. true }
-leave_step (StmtKind-F.Block all) = record { clause = false; ok = λ w. every (map (λ s. s.ok w) all) }
-leave_step (StmtKind-F.If test then other) = record { clause = false; ok = λ w. then.ok w && allows (λ s. s.ok w) other }
-leave_step (StmtKind-F.Loop id f init test step body pragmas) = record {
-  clause = false;
-  ok = λ w. header_ok f init test step && body.ok (record { ret = w.ret; looping = true });
-}
-leave_step (StmtKind-F.Return e) = record { clause = false; ok = λ w. returns e w.ret }
-leave_step StmtKind-F.Break = record { clause = false; ok = λ w. w.looping }
-leave_step StmtKind-F.Continue = record { clause = false; ok = λ w. w.looping }
-leave_step (StmtKind-F.Future place captures body) = record {
-  clause = false;
-  ok = λ w. passes (λ t. body.ok (record { ret = t; looping = false })) (future_under place.ty);
-}
-leave_step StmtKind-F.Empty = record { clause = false; ok = λ w. true }
+leave_step (StmtKind-F.Declare x init) = record { declares = true; evaluates = false; ok = λ w. true }
+leave_step (StmtKind-F.Eval e) = record { declares = false; evaluates = true; ok = λ w. true }
+leave_step (StmtKind-F.Block all) = acts (λ w. every (map (λ s. s.ok w) all))
+leave_step (StmtKind-F.If test then other) = acts (λ w. then.ok w && allows (λ s. s.ok w) other)
+leave_step (StmtKind-F.Loop id f init test step body pragmas) =
+    acts (λ w. header_ok f init test step && body.ok (record { ret = w.ret; looping = true }))
+leave_step (StmtKind-F.Return e) = acts (λ w. returns e w.ret)
+leave_step StmtKind-F.Break = acts (λ w. w.looping)
+leave_step StmtKind-F.Continue = acts (λ w. w.looping)
+leave_step (StmtKind-F.Future place captures body) =
+    acts (λ w. passes (λ t. body.ok (record { ret = t; looping = false })) (future_under place.ty))
+leave_step StmtKind-F.Empty = acts (λ w. true)
 
 -- `break`, `continue` and `return` leave what is there, with a value of its type
 abbrev pub leaves_ok : Stmt → Inside → Bool

@@ -1,7 +1,5 @@
 -- When an expression is well typed (C99 6.5). Its type is that of its value; a place is a value of type Ptr.
 use Rattle.std.specs.Prelude.{ℕ, ◌+◌, ◌-◌, Bool, true, false, ◌&&◌, ◌||◌, ◌==◌, not, nat_lt, nat_le, cond, List, [], ◌∷◌, length, map, take, Option, Some, None, slice_get, option_map, option_and_then}
-use Rattle.xc_word.specs.declared.memory.Kind.{Kind}
-use Rattle.xc_word.specs.declared.memory.Kind.TheVariants as kind
 use Rattle.xc_tree.specs.declared.operator.BinOp.{BinOp}
 use Rattle.xc_tree.specs.declared.operator.BinOp.TheVariants as op
 use Rattle.xc_tree.specs.declared.operator.UnOp.{UnOp}
@@ -15,6 +13,7 @@ use Rattle.xc_tree.specs.declared.tree.Object.{Object}
 use Rattle.xc_tree.specs.declared.tree.Func.{Func}
 use Rattle.xc_tree.specs.Lists.{every, passes}
 use Rattle.xc_tree.specs.Types.{Shape, struct_shapes, shape_of, size_of, is_object, is_mixed, same_ty, is_void, is_number, is_pointer, is_plain, both_numbers, fits, may_hold, common_type, pointee, content, array_under, struct_under}
+use Rattle.xc_tree.specs.Kinds.{is_read, is_write, same_write, write_kind}
 use Rattle.xc_tree.specs.Formats.{integers_taken}
 
 -- what an expression may name
@@ -97,18 +96,6 @@ within_mixed cx (ExprKind-F.Member base off) = base.within || mixed_under cx.sha
 within_mixed cx _ = false
 
 -- accesses ---------------------------------------------------------------
-
-abbrev pub is_read : Kind → Bool
-is_read kind.ReadXx = true
-is_read kind.ReadFe = true
-is_read kind.ReadFf = true
-is_read _ = false
-
-abbrev pub is_write : Kind → Bool
-is_write kind.WriteXf = true
-is_write kind.WriteEf = true
-is_write kind.WriteFf = true
-is_write _ = false
 
 -- the part is the place of a scalar whose type, without its qualifier, is as told
 abbrev pub is_place : Part → (Ty → Bool) → Bool
@@ -236,8 +223,8 @@ rule cx (ExprKind-F.Auto x) ty = leads_to (addressed_type (slice_get cx.locals x
 rule cx (ExprKind-F.Index base index size bound) ty = is_number index.ty && element_ok cx.shapes base bound size ty
 rule cx (ExprKind-F.Member base off) ty = member_ok cx.shapes (members_under cx.structs base.ty) off ty
 rule cx (ExprKind-F.Read k place) ty = is_read k && is_place place (λ t. same_ty t ty)
-rule cx (ExprKind-F.Write k place value) ty =
-    is_write k && is_place place (λ t. fits t value.ty && (same_ty t ty || is_void ty))
+rule cx (ExprKind-F.Write k place value) ty = is_write k
+    && is_place place (λ t. fits t value.ty && (is_void ty || (same_ty t ty && same_write k (write_kind place.ty))))
 rule cx (ExprKind-F.FetchAdd place value) ty = is_place place (λ t. both_numbers t value.ty && same_ty t ty)
 rule cx (ExprKind-F.Purge place) ty = is_place place (λ t. is_void ty)
 rule cx (ExprKind-F.Update o post place value) ty = is_number value.ty && (update_ok (sort_of o) ty

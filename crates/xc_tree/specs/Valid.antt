@@ -54,9 +54,9 @@ abbrev pub word_ok : List Object → ℕ → Ty → Bool
 word_ok globals word ty = is_number ty || (word == 0 || (word % 2 ^ 32 == 0
     && passes (λ g. passes (λ to. may_point to g.ty) (pointee ty)) (slice_get globals (word / 2 ^ 32 - 1))))
 
--- only a qualified cell may be empty
+-- only a qualified cell may be empty, and holds 0 then
 abbrev pub cell_ok : List Object → Ty → ℕ × Bool → Bool
-cell_ok globals ty c = (c.1 || is_qualified ty) && passes (word_ok globals c.0) (base ty)
+cell_ok globals ty c = (c.1 || (is_qualified ty && c.0 == 0)) && passes (word_ok globals c.0) (base ty)
 
 abbrev pub cells_from : List Object → (ℕ → Option Ty) → ℕ → List (ℕ × Bool) → Bool
 cells_from globals cell k [] = true

@@ -73,10 +73,12 @@ pub enum ExprKind {
         place: Boxed<Expr>,
         value: Boxed<Expr>,
     },
+    /// An operator on one value.
     Unary {
         op: UnOp,
         of: Boxed<Expr>,
     },
+    /// An operator on two values.
     Binary {
         op: BinOp,
         a: Boxed<Expr>,
@@ -94,11 +96,12 @@ pub enum ExprKind {
     },
     /// The comma operator.
     Comma(Boxed<Expr>, Boxed<Expr>),
+    /// A call of the function with this number.
     Call {
         func: u32,
         args: Items<Expr>,
     },
-    /// `printf`
+    /// `printf` with the text of this number.
     Print {
         format: u32,
         args: Items<Expr>,

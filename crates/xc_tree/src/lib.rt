@@ -11,7 +11,7 @@ pub mod ty;
 pub use expr::{Expr, ExprKind};
 pub use operator::{BinOp, UnOp};
 pub use pragmas::{Marks, Pragmas, Root, Schedule};
-pub use stmt::{Capture, LoopForm, Stmt, StmtKind};
+pub use stmt::{Capture, LoopForm, LoopId, NotNormal, Stmt, StmtKind};
 pub use tree::{Func, Local, Object, Tree};
 pub use ty::Ty;
 pub use xc_span::{Pos, Span};

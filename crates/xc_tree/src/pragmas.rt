@@ -6,7 +6,8 @@ use bitflags::{Flag, Flags, bitflag_items};
 use sqlite_items::Items;
 use xc_span::Span;
 
-/// Which pragmas stand before a loop.
+/// Which pragmas stand before a loop: `assert parallel`, `loop serial`, `assert nodep`, `assert noalias`, `use` and a
+/// schedule.
 #[derive(Clone, Copy, PartialEq, Eq, Debug)]
 pub struct Marks(u8);
 
@@ -55,15 +56,20 @@ pub enum Root {
     GlobalPointer(u32),
     /// A pointer variable of a function.
     LocalPointer(u32),
+    /// None of these. No pragma names it.
     Other,
 }
 
 /// How the iterations of a loop are dealt out to the members of a team.
 #[derive(Drop, Clone, Copy, Debug, PartialEq, Eq)]
 pub enum Schedule {
+    /// `block`: each member has one run of neighbouring iterations.
     Block,
+    /// `interleave`: each member has every so many-th iteration.
     Interleave,
+    /// `dynamic`: a member takes one iteration at a time.
     Dynamic,
+    /// `block dynamic`: a member takes 16 iterations at a time.
     BlockDynamic,
 }
 

@@ -1,11 +1,30 @@
 -- The values of operators on 64-bit words (C99 6.5.3 to 6.5.12). Arithmetic wraps, division truncates, the least
 -- number over -1 is itself, and a shift's count is taken modulo 64.
-use Rattle.std.specs.Prelude.{ℕ, ◌+◌, ◌-◌, ◌*◌, ◌/◌, ◌%◌, ◌^◌, Bool, ◌==◌, not, nat_lt, int_lt, int_rem, cond, Option, Some, None, ℤ, bit_and, bit_or, bit_xor}
+use Rattle.std.specs.Prelude.{ℕ, ◌+◌, ◌-◌, ◌*◌, ◌/◌, ◌%◌, ◌^◌, Bool, true, false, ◌&&◌, ◌||◌, ◌==◌, not, nat_lt, int_lt, int_rem, cond, Option, Some, None, ℤ, bit_and, bit_or, bit_xor}
 use Rattle.std.specs.Int.{w64, cast_signed, cast_unsigned, int_wrapping_div, int_shr}
 use Rattle.xc_tree.specs.declared.operator.BinOp.{BinOp}
 use Rattle.xc_tree.specs.declared.operator.BinOp.TheVariants as op
+use Rattle.xc_tree.specs.declared.ty.Ty.{Ty, out-Ty}
+use Rattle.xc_tree.specs.declared.ty.Ty.TheOpen.{Ty-F}
 use Rattle.xc_tree.specs.declared.operator.UnOp.{UnOp}
 use Rattle.xc_tree.specs.declared.operator.UnOp.TheVariants as unary
+
+-- the type of words without a sign
+abbrev pub uint_at : Ty-F Ty → Bool
+uint_at Ty-F.Uint = true
+uint_at _ = false
+
+abbrev pub is_uint : Ty → Bool
+is_uint ty = uint_at (out-Ty ty)
+
+abbrev pub is_shift : BinOp → Bool
+is_shift op.Shl = true
+is_shift op.Shr = true
+is_shift _ = false
+
+-- the operation is on Uint: a shift by the type of its left operand, else where one operand is Uint (C99 6.3.1.8)
+abbrev pub works_on_uint : BinOp → Ty → Ty → Bool
+works_on_uint o a b = is_uint a || (not (is_shift o) && is_uint b)
 
 -- the number that a word of type Int stands for
 abbrev pub signed : ℕ → ℤ
@@ -54,6 +73,6 @@ binary_word op.BitOr unsigned a b = Some (bit_or a b)
 
 abbrev pub unary_word : UnOp → ℕ → ℕ
 unary_word unary.Neg a = difference 0 a
-unary_word unary.Complement a = 2 ^ 64 - 1 - a
+unary_word unary.Complement a = difference (2 ^ 64 - 1) a
 unary_word unary.Not a = truth (a == 0)
 unary_word unary.Cast a = a

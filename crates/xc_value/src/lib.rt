@@ -2,9 +2,29 @@
 #![tactic(auto)]
 
 ghost use Rattle.std.specs.Prelude.{◌≡◌, cond};
-ghost use Rattle.xc_value.specs.Words.{truth, is_below, quotient_word, remainder_word, shifted_word, binary_word, unary_word};
+ghost use Rattle.xc_value.specs.Words.{is_uint, works_on_uint, truth, is_below, quotient_word, remainder_word, shifted_word, binary_word, unary_word};
 
-use xc_tree::{BinOp, UnOp};
+use xc_tree::{BinOp, Ty, UnOp};
+
+/// Whether words of this type are without a sign.
+pub fn is_uint(ty: &Ty) -> bool
+    ensures { result ≡ is_uint ty.now }
+{
+    match ty {
+        Ty::Uint => true,
+        _ => false,
+    }
+}
+
+/// Whether a binary operator on operands of these types works on words without a sign.
+pub fn works_on_uint(op: BinOp, a: &Ty, b: &Ty) -> bool
+    ensures { result ≡ works_on_uint op a.now b.now }
+{
+    match op {
+        BinOp::Shl | BinOp::Shr => is_uint(a),
+        _ => is_uint(a) || is_uint(b),
+    }
+}
 
 fn truth(holds: bool) -> u64
     ensures { result ≡ truth holds }
