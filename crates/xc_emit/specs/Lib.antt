@@ -1,0 +1,5 @@
+pub mod Unbuilt
+pub mod Fits
+pub mod Globals
+pub mod Code
+pub mod Faithful

@@ -1,0 +1,3 @@
+pub mod Terms
+pub mod Meaning
+pub mod Source
