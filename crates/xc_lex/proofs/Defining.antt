@@ -1,15 +1,16 @@
 -- A further macro.
-use Rattle.std.proofs.Common.{◌≡◌, ◌≤◌, ◌<◌, ℕ, zero, suc, ◌+◌, List, [], ◌∷◌, ◌++◌, length, Bool, true, false, if◌then◌else◌, ◌==◌, ◌||◌, is_some, refl, sym, ap, ◌∙◌, subst, arith, length-append}
+use Rattle.std.proofs.Common.{◌≡◌, ◌≤◌, ◌<◌, ℕ, zero, suc, ◌+◌, List, [], ◌∷◌, ◌++◌, length, Bool, true, false, if◌then◌else◌, ◌==◌, is_some, refl, sym, ap, ◌∙◌, arith, length-append}
 use Rattle.std.proofs.lemmas.List.{map-append}
 use Rattle.std.specs.Str.{bytes_eq}
 use Rattle.std.proofs.lemmas.Slice.Eq.{bytes_eq-Decides}
 use Rattle.xc_lex.specs.declared.token.Token.{Token}
 use Rattle.xc_lex.specs.declared.macros.Macro.{Macro}
+use Rattle.xc_lex.specs.declared.macros.Made.{Made}
 use Rattle.xc_lex.specs.Macros.{bytes_of, is_defined}
-use Rattle.xc_lex.specs.State.{entry_of, all_of, visible, index_of, AreApart, tokens_of, is_set, is_in, AreNamesOf, AreBlank}
+use Rattle.xc_lex.specs.State.{entry_of, all_of, visible, index_of, AreApart, made_of, IsKept, MadeFits}
 use Rattle.xc_lex.specs.Steps.{IsIdle}
-use Rattle.std.proofs.lemmas.Bool.{eq-eqb}
-use Rattle.xc_lex.proofs.Expansion.{or_right}
+use Rattle.std.proofs.lemmas.Bool.{eqb-true}
+use Rattle.xc_lex.proofs.Made.{MadeFits-none}
 use Rattle.xc_lex.proofs.Lookups.{body_of-absent, body_of-closed}
 
 visible_nil : (source : List ℕ) (ms : List Macro) → visible source ms [] ≡ all_of source ms
@@ -59,65 +60,44 @@ visible-push source (x ∷ ms) m [] h = absurd (omega arith)
 visible-push source (x ∷ ms) m (true ∷ opened) h = visible-push source ms m opened (omega arith)
 visible-push source (x ∷ ms) m (false ∷ opened) h = ap (λ ns. entry_of source x ∷ ns) (visible-push source ms m opened (omega arith))
 
-tokens_of-push : (ms : List Macro) (m : Macro) (i : ℕ) → i < length ms → tokens_of (ms ++ m ∷ []) i ≡ tokens_of ms i
-tokens_of-push [] m i h = absurd (omega arith)
-tokens_of-push (x ∷ ms) m zero h = refl
-tokens_of-push (x ∷ ms) m (suc i) h = tokens_of-push ms m i (omega arith)
+made_of-push : (made : List Made) (i : ℕ) → made_of (made ++ record { from = 0; to = 0; macros = 0 } ∷ []) i ≡ made_of made i
+made_of-push [] zero = refl
+made_of-push [] (suc i) = refl
+made_of-push (x ∷ made) zero = refl
+made_of-push (x ∷ made) (suc i) = made_of-push made i
 
-is_set-push : (bs : List Bool) (i : ℕ) → is_set (bs ++ false ∷ []) i ≡ is_set bs i
-is_set-push [] zero = refl
-is_set-push [] (suc i) = refl
-is_set-push (b ∷ bs) zero = refl
-is_set-push (b ∷ bs) (suc i) = is_set-push bs i
-
-is_set_within : (bs : List Bool) (i : ℕ) → is_set bs i ≡ true → i < length bs
-is_set_within [] i h = absurd (cc)
-is_set_within (b ∷ bs) zero h = omega arith
-is_set_within (b ∷ bs) (suc i) h = let more = is_set_within bs i h in omega (arith, more)
-
-AreNamesOf-push : (source : List ℕ) (ms : List Macro) (m : Macro) (known : List ℕ) (ts : List Token) → AreNamesOf source ms known ts → AreNamesOf source (ms ++ m ∷ []) known ts
-AreNamesOf-push source ms m known [] h = tt
-AreNamesOf-push source ms m known (t ∷ ts) h =
-    let names = h.0.1 in
-    let found : index_of source ms (bytes_of source t.text) < length ms = omega (arith, names.within, names.index) in
-    let more : length (ms ++ m ∷ []) ≡ length ms + 1 = length-append ms (m ∷ []) in
-    ((h.0.0, record { kind = names.kind; index = names.index ∙ sym (index_of-push source ms m (bytes_of source t.text) found); within = omega (arith, names.within, more) }, h.0.2), AreNamesOf-push source ms m known ts h.1)
-
-head : (i : ℕ) (known : List ℕ) → is_in i (i ∷ known) ≡ true
-head i known = ap (λ v. v || is_in i known) (eq-eqb i i refl)
-
-AreBlank-push : (source : List ℕ) (ms : List Macro) (m : Macro) (known : List ℕ) → ((i : ℕ) → is_in i known ≡ true → i < length ms) → AreBlank source ms known → AreBlank source (ms ++ m ∷ []) known
-AreBlank-push source ms m [] within h = tt
-AreBlank-push source ms m (i ∷ known) within h = (
-  h.0,
-  subst (λ (ts : List Token). AreNamesOf source (ms ++ m ∷ []) known ts) (sym (tokens_of-push ms m i (within i (head i known)))) (AreNamesOf-push source ms m known (tokens_of ms i) h.1),
-  AreBlank-push source ms m known (λ j of_known. within j (or_right (i == j) (is_in j known) of_known)) h.2,
-)
-
-pub IsIdle-push : (source : List ℕ) (ms : List Macro) (m : Macro) (opened blank : List Bool) → IsIdle source ms opened blank → index_of source ms (bytes_of source m.name) ≡ length ms → IsIdle source (ms ++ m ∷ []) (opened ++ false ∷ []) (blank ++ false ∷ [])
-IsIdle-push source ms m opened blank h new =
+pub IsIdle-push : (source : List ℕ) (ms : List Macro) (m : Macro) (opened : List Bool) (made : List Made) → IsIdle source ms opened made → index_of source ms (bytes_of source m.name) ≡ length ms
+    → IsIdle source (ms ++ m ∷ []) (opened ++ false ∷ []) (made ++ record { from = 0; to = 0; macros = 0 } ∷ [])
+IsIdle-push source ms m opened made h new =
     let kept = h.kept in
-    let flags = kept.flags in
     let more : length (ms ++ m ∷ []) ≡ length ms + 1 = length-append ms (m ∷ []) in
     let opened_more : length (opened ++ false ∷ []) ≡ length opened + 1 = length-append opened (false ∷ []) in
-    let blank_more : length (blank ++ false ∷ []) ≡ length blank + 1 = length-append blank (false ∷ []) in
+    let made_more = length-append made (record { from = 0; to = 0; macros = 0 } ∷ []) in
     record {
       kept = record {
         opened_len = omega (arith, more, opened_more, kept.opened_len);
-        blank_len = omega (arith, more, blank_more, kept.blank_len);
+        made_len = omega (arith, more, made_more, kept.made_len);
         apart = AreApart-push source ms m kept.apart new;
-        flags = record {
-          known = flags.known;
-          are_blank = AreBlank-push source ms m flags.known (λ i of_known. let set = is_set_within blank i (flags.flagged i ∙ of_known) in omega (arith, set, kept.blank_len)) flags.are_blank;
-          flagged = λ i. is_set-push blank i ∙ flags.flagged i;
-          closed = λ i of_known. is_set-push opened i ∙ flags.closed i of_known;
-        };
+        past = λ i. let same = ap (λ m. m.macros) (made_of-push made i) in let past = kept.past i in omega (arith, more, same, past);
       };
       idle = visible-push source ms m opened kept.opened_len ∙ ap (λ ns. ns ++ entry_of source m ∷ []) h.idle ∙ sym (map-append (entry_of source) ms (m ∷ []));
     }
 
+below : (a b : ℕ) → a < b → (a == b) ≡ false
+below a b h = elim (a == b) as (λ v. (a == b) ≡ v → v ≡ false) [ true ↦ λ e. let same = eqb-true a b e in absurd (omega (arith, same)) | false ↦ λ e. refl ] refl
+
+-- what was made is forgotten
+pub MadeFits-push : (source : List ℕ) (ms : List Macro) (m : Macro) (opened opened' : List Bool) (made : List Made) (tokens : List Token) → IsKept source ms opened' made → MadeFits source (ms ++ m ∷ []) opened (made ++ record { from = 0; to = 0; macros = 0 } ∷ []) tokens
+MadeFits-push source ms m opened opened' made tokens kept =
+    let more : length (ms ++ m ∷ []) ≡ length ms + 1 = length-append ms (m ∷ []) in
+    MadeFits-none source (ms ++ m ∷ []) opened _ tokens (λ i _. let same = ap (λ m. m.macros) (made_of-push made i) in let past = kept.past i in below (made_of (made ++ record { from = 0; to = 0; macros = 0 } ∷ []) i).macros (length (ms ++ m ∷ [])) (omega (arith, more, same, past)))
+
 pub IsIdle-empty : (source : List ℕ) → IsIdle source [] [] []
 IsIdle-empty source = record {
-  kept = record { opened_len = refl; blank_len = refl; apart = tt; flags = record { known = []; are_blank = tt; flagged = λ i. refl; closed = λ i h. refl } };
+  kept = record { opened_len = refl; made_len = refl; apart = tt; past = λ i. made_of-nil i };
   idle = refl;
 }
+  where
+    made_of-nil : (i : ℕ) → (made_of [] i).macros ≤ 0
+    made_of-nil zero = omega arith
+    made_of-nil (suc i) = omega arith

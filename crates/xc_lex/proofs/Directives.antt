@@ -5,6 +5,7 @@ use Rattle.std.specs.List.{slice_range}
 use Rattle.xc_lex.specs.declared.token.Token.{Token}
 use Rattle.xc_lex.specs.declared.token.TokenKind.TheVariants.{Name}
 use Rattle.xc_lex.specs.declared.macros.Macro.{Macro}
+use Rattle.xc_lex.specs.declared.macros.Made.{Made}
 use Rattle.xc_lex.specs.declared.stop.Stop.{Stop}
 use Rattle.xc_lex.specs.declared.stop.Stop.TheVariants.{NoMemory, At}
 use Rattle.xc_lex.specs.declared.front.Front.TheVariants.{Whole}
@@ -13,7 +14,7 @@ use Rattle.xc_lex.specs.Macros.{Macros, bytes_of}
 use Rattle.xc_lex.specs.Lines.{Line, good, bad, words_at, body_at, past_blanks, define_by, define_at, directive_by, directive_at, directive_of, named}
 use Rattle.xc_lex.specs.State.{entry_of, all_of, index_of}
 use Rattle.xc_lex.specs.Steps.{IsIdle, BodyEnds, BodyStops, DirectiveRead, DirectiveStops}
-use Rattle.xc_lex.proofs.Defining.{is_defined-new, is_defined-known, index_of-le, IsIdle-push}
+use Rattle.xc_lex.proofs.Defining.{is_defined-new, is_defined-known, index_of-le, IsIdle-push, MadeFits-push}
 
 -- a name stands behind `define`
 pub record DefinesAt (source : List ℕ) (start at n : ℕ) : Type 0 where
@@ -36,17 +37,18 @@ define_known source ms hash start at n h old =
     define_named source (all_of source ms) hash start at n h
     ∙ ap (λ b. if b then bad (all_of source ms) [] hash else body_at source (all_of source ms) (slice_range source at (at + n)) (at + n)) (is_defined-known source ms (slice_range source at (at + n)) within)
 
-pub DirectiveRead-at : (source : List ℕ) (line : Line) (ts : List Token) (at : ℕ) (ms ms' : List Macro) (opened opened' blank blank' : List Bool) → ms' ≡ ms → opened' ≡ opened → blank' ≡ blank → DirectiveRead source line ts at ms opened blank → DirectiveRead source line ts at ms' opened' blank'
-DirectiveRead-at source line ts at ms ms' opened opened' blank blank' e f g h =
-    let a = subst (λ (ns : List Macro). DirectiveRead source line ts at ns opened blank) (sym e) h in
-    let b = subst (λ (os : List Bool). DirectiveRead source line ts at ms' os blank) (sym f) a in
-    subst (λ (bs : List Bool). DirectiveRead source line ts at ms' opened' bs) (sym g) b
+pub DirectiveRead-at : (source : List ℕ) (line : Line) (ts : List Token) (at : ℕ) (ms ms' : List Macro) (opened opened' : List Bool) (made made' : List Made) → ms' ≡ ms → opened' ≡ opened → made' ≡ made → DirectiveRead source line ts at ms opened made → DirectiveRead source line ts at ms' opened' made'
+DirectiveRead-at source line ts at ms ms' opened opened' made made' e f g h =
+    let a = subst (λ (ns : List Macro). DirectiveRead source line ts at ns opened made) (sym e) h in
+    let b = subst (λ (os : List Bool). DirectiveRead source line ts at ms' os made) (sym f) a in
+    subst (λ (ns : List Made). DirectiveRead source line ts at ms' opened' ns) (sym g) b
 
-pub define_read : (source : List ℕ) (ms : List Macro) (opened blank : List Bool) (hash start at n stop : ℕ) (m : Macro) → DefinesAt source start at n → index_of source ms (slice_range source at (at + n)) ≡ length ms
-    → BodyEnds (words_at source (at + n)) m.body.items stop → bytes_of source m.name ≡ slice_range source at (at + n) → IsIdle source ms opened blank
-    → DirectiveRead source (define_at source (all_of source ms) hash start) [] stop (ms ++ m ∷ []) (opened ++ false ∷ []) (blank ++ false ∷ [])
-define_read source ms opened blank hash start at n stop m h new body name idle = record {
-  idle = IsIdle-push source ms m opened blank idle (subst (λ (bs : List ℕ). index_of source ms bs ≡ length ms) (sym name) new);
+pub define_read : (source : List ℕ) (ms : List Macro) (opened : List Bool) (made : List Made) (hash start at n stop : ℕ) (m : Macro) → DefinesAt source start at n → index_of source ms (slice_range source at (at + n)) ≡ length ms
+    → BodyEnds (words_at source (at + n)) m.body.items stop → bytes_of source m.name ≡ slice_range source at (at + n) → IsIdle source ms opened made
+    → DirectiveRead source (define_at source (all_of source ms) hash start) [] stop (ms ++ m ∷ []) (opened ++ false ∷ []) (made ++ record { from = 0; to = 0; macros = 0 } ∷ [])
+define_read source ms opened made hash start at n stop m h new body name idle = record {
+  idle = IsIdle-push source ms m opened made idle (subst (λ (bs : List ℕ). index_of source ms bs ≡ length ms) (sym name) new);
+  fits = λ tokens. MadeFits-push source ms m (opened ++ false ∷ []) opened made tokens idle.kept;
   same = define_new source ms hash start at n h new ∙ body.ends (all_of source ms) (slice_range source at (at + n))
       ∙ ap (λ bs. good (all_of source ms ++ (bs, m.body.items) ∷ []) [] stop) (sym name)
       ∙ ap (λ ns. good ns [] stop) (sym (map-append (entry_of source) ms (m ∷ [])));

@@ -8,6 +8,7 @@ use Rattle.std.specs.Option.{option_map, option_map_or}
 use Rattle.xc_span.specs.declared.Span.{Span}
 use Rattle.xc_lex.specs.declared.token.Token.{Token}
 use Rattle.xc_lex.specs.declared.macros.Macro.{Macro}
+use Rattle.xc_lex.specs.declared.macros.Made.{Made}
 use Rattle.xc_lex.specs.declared.stop.Stop.{Stop}
 use Rattle.xc_lex.specs.declared.stop.Stop.TheVariants.{NoMemory, At}
 use Rattle.xc_lex.specs.declared.front.Front.{Front}
@@ -15,7 +16,7 @@ use Rattle.xc_lex.specs.declared.front.Front.TheVariants.{End, LineEnd, Blank, W
 use Rattle.xc_lex.specs.Macros.{Macros, bytes_of, without, replacement, replaced, expanded}
 use Rattle.xc_lex.specs.Lines.{Line, good, bad, words_at, line_by, line_at, hash_line, directive_at}
 use Rattle.xc_lex.specs.Source.{fault_of}
-use Rattle.xc_lex.specs.State.{all_of}
+use Rattle.xc_lex.specs.State.{all_of, MadeFits}
 use Rattle.xc_lex.specs.Steps.{IsIdle, is_nil, AllWords, WordsStop, LineRead, LineStops, DirectiveRead, DirectiveStops}
 
 -- by the count of the tokens
@@ -100,13 +101,14 @@ WordsStop-line source ms start before (At place) h =
     ∙ ap Some (sym h.passes.0)
 
 -- a line was read
-pub LineRead-good : (source : List ℕ) (line : Line) (before ts tokens : List Token) (at : ℕ) (ms : List Macro) (opened blank : List Bool) → line ≡ good (all_of source ms) ts at → IsIdle source ms opened blank → tokens ≡ before ++ ts → length tokens ≤ 2 ^ 20
-    → LineRead source line before at ms opened blank tokens
-LineRead-good source line before ts tokens at ms opened blank same idle told few =
+pub LineRead-good : (source : List ℕ) (line : Line) (before ts tokens : List Token) (at : ℕ) (ms : List Macro) (opened : List Bool) (made : List Made) → line ≡ good (all_of source ms) ts at → IsIdle source ms opened made → MadeFits source ms opened made tokens → tokens ≡ before ++ ts → length tokens ≤ 2 ^ 20
+    → LineRead source line before at ms opened made tokens
+LineRead-good source line before ts tokens at ms opened made same idle fits told few =
     let all = ap (λ us. before ++ us) (ap (λ l. l.tokens) same) in
     let count = ap length (told ∙ sym all) in
     record {
       idle = idle;
+      fits = fits;
       faultless = fault_none before line (omega (arith, few, count)) (ap (λ l. l.is_bad) same);
       stop = ap (λ l. l.stop) same;
       macros = ap (λ l. l.macros) same;
@@ -135,8 +137,8 @@ DirectiveStops-line line before ms (At place) h few =
     let size = ap length (append-nil before) in
     LineStops-bad line before [] place ms h (omega (arith, few, size))
 
-pub DirectiveRead-line : (source : List ℕ) (line : Line) (before : List Token) (at : ℕ) (ms : List Macro) (opened blank : List Bool) → DirectiveRead source line [] at ms opened blank → length before ≤ 2 ^ 20 → LineRead source line before at ms opened blank before
-DirectiveRead-line source line before at ms opened blank h few = LineRead-good source line before [] before at ms opened blank h.same h.idle (sym (append-nil before)) few
+pub DirectiveRead-line : (source : List ℕ) (line : Line) (before : List Token) (at : ℕ) (ms : List Macro) (opened : List Bool) (made : List Made) → DirectiveRead source line [] at ms opened made → length before ≤ 2 ^ 20 → LineRead source line before at ms opened made before
+DirectiveRead-line source line before at ms opened made h few = LineRead-good source line before [] before at ms opened made h.same h.idle (h.fits before) (sym (append-nil before)) few
 
 -- the end of a line of words
 pub line_good : (v : Front) (source : List ℕ) (ms : Macros) (found : List Token) (stop : ℕ) → (v ≡ Hash → ⊥) → (v ≡ Bad → ⊥) → line_by v source ms found stop ≡ good ms (expanded source ms found) stop
@@ -179,8 +181,8 @@ bad_later source ms start before at fresh tokens w few =
     LineStops-bad (line_at source (all_of source ms) start) before (expanded source (all_of source ms) w.found) at (all_of source ms)
     (line_words source ms start before at Bad fresh tokens w) (omega (arith, few, count))
 
-pub words_read : (source : List ℕ) (ms : List Macro) (opened blank : List Bool) (start : ℕ) (before : List Token) (at : ℕ) (front : Front) (fresh : Bool) (tokens : List Token) → AllWords source ms start before at front fresh tokens → (front ≡ Hash → ⊥) → (front ≡ Bad → ⊥) → IsIdle source ms opened blank → length tokens ≤ 2 ^ 20
-    → LineRead source (line_at source (all_of source ms) start) before at ms opened blank tokens
-words_read source ms opened blank start before at front fresh tokens w no_hash no_bad idle few =
-    LineRead-good source (line_at source (all_of source ms) start) before (expanded source (all_of source ms) w.found) tokens at ms opened blank
-    (line_words source ms start before at front fresh tokens w ∙ line_good front source (all_of source ms) w.found at no_hash no_bad) idle w.told few
+pub words_read : (source : List ℕ) (ms : List Macro) (opened : List Bool) (made : List Made) (start : ℕ) (before : List Token) (at : ℕ) (front : Front) (fresh : Bool) (tokens : List Token) → AllWords source ms start before at front fresh tokens → (front ≡ Hash → ⊥) → (front ≡ Bad → ⊥) → IsIdle source ms opened made → MadeFits source ms opened made tokens → length tokens ≤ 2 ^ 20
+    → LineRead source (line_at source (all_of source ms) start) before at ms opened made tokens
+words_read source ms opened made start before at front fresh tokens w no_hash no_bad idle fits few =
+    LineRead-good source (line_at source (all_of source ms) start) before (expanded source (all_of source ms) w.found) tokens at ms opened made
+    (line_words source ms start before at front fresh tokens w ∙ line_good front source (all_of source ms) w.found at no_hash no_bad) idle fits w.told few

@@ -1,6 +1,7 @@
 pub mod Values
 pub mod Lookups
 pub mod Expansion
+pub mod Made
 pub mod Frames
 pub mod Scanning
 pub mod Reading
@@ -9,4 +10,5 @@ pub mod Directives
 pub mod Faults
 pub mod Sources
 pub mod Unique
+pub mod Spelling
 pub mod NumberingLemmas

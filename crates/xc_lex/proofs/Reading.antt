@@ -5,6 +5,7 @@ use Rattle.std.proofs.lemmas.List.{append-nil}
 use Rattle.xc_lex.specs.declared.token.Token.{Token}
 use Rattle.xc_lex.specs.declared.token.TokenKind.{TokenKind}
 use Rattle.xc_lex.specs.declared.macros.Macro.{Macro}
+use Rattle.xc_lex.specs.declared.macros.Made.{Made}
 use Rattle.xc_lex.specs.declared.stop.Stop.{Stop}
 use Rattle.xc_lex.specs.declared.stop.Stop.TheVariants.{NoMemory, At}
 use Rattle.xc_lex.specs.declared.front.Front.{Front}
@@ -12,7 +13,7 @@ use Rattle.xc_lex.specs.declared.front.Front.TheVariants.{End, LineEnd, Blank, W
 use Rattle.xc_lex.specs.Front.{front_of}
 use Rattle.xc_lex.specs.Macros.{replaced, expanded}
 use Rattle.xc_lex.specs.Lines.{Words, token_of, words_by, words_from}
-use Rattle.xc_lex.specs.State.{all_of, visible, now_replaced, Replaced, Passes}
+use Rattle.xc_lex.specs.State.{all_of, visible, MadeFits, now_replaced, Replaced, Passes}
 use Rattle.xc_lex.specs.Steps.{IsIdle, is_nil, SoFar, AllWords, TooMany, WordsStop}
 use Rattle.xc_lex.proofs.Scanning.{words_blank_at, words_whole_at, words_stop}
 
@@ -92,29 +93,30 @@ stops source ms start before NoMemory h = tt
 stops source ms start before (At place) h = h
 
 -- of an idle state
-pub now_is_all : (source : List ℕ) (ms : List Macro) (opened blank : List Bool) (t : Token) → IsIdle source ms opened blank → now_replaced source t.at ms opened t ≡ replaced source t.at (length (all_of source ms)) (all_of source ms) t
-now_is_all source ms opened blank t idle = ap (λ all. replaced source t.at (length all) all t) idle.idle
+pub now_is_all : (source : List ℕ) (ms : List Macro) (opened : List Bool) (made : List Made) (t : Token) → IsIdle source ms opened made → now_replaced source t.at ms opened t ≡ replaced source t.at (length (all_of source ms)) (all_of source ms) t
+now_is_all source ms opened made t idle = ap (λ all. replaced source t.at (length all) all t) idle.idle
 
-pub IsIdle-replaced : (source : List ℕ) (ms : List Macro) (opened blank opened' blank' : List Bool) (tokens tokens' : List Token) (t : Token) → IsIdle source ms opened blank → Replaced source ms opened tokens t opened' blank' tokens' → IsIdle source ms opened' blank'
-IsIdle-replaced source ms opened blank opened' blank' tokens tokens' t idle r = record { kept = r.kept; idle = ap (λ os. visible source ms os) r.unwinds ∙ idle.idle }
+pub IsIdle-replaced : (source : List ℕ) (ms : List Macro) (opened opened' : List Bool) (made made' : List Made) (tokens tokens' : List Token) (t : Token) → IsIdle source ms opened made → Replaced source ms opened tokens t opened' made' tokens' → IsIdle source ms opened' made'
+IsIdle-replaced source ms opened opened' made made' tokens tokens' t idle r = record { kept = r.kept; idle = ap (λ os. visible source ms os) r.unwinds ∙ idle.idle }
 
 -- a word was replaced
-pub SoFar-replaced : (source : List ℕ) (ms ms' : List Macro) (opened blank opened' blank' : List Bool) (start : ℕ) (before : List Token) (at : ℕ) (fresh : Bool) (tokens tokens' : List Token) (kind : TokenKind) (n : ℕ) (t : Token)
-    → ms' ≡ ms → t ≡ token_of kind at (at + n) → front_of (drop at source) ≡ Whole kind n → 0 < n → n ≤ length (drop at source) → IsIdle source ms opened blank → Replaced source ms' opened tokens t opened' blank' tokens'
-    → SoFar source ms start before at fresh tokens → IsIdle source ms opened' blank' × SoFar source ms start before (at + n) false tokens'
-SoFar-replaced source ms ms' opened blank opened' blank' start before at fresh tokens tokens' kind n t same word f some h idle r s =
-    let there = subst (λ (ns : List Macro). Replaced source ns opened tokens t opened' blank' tokens') same r in
-    let done = subst (λ (u : Token). Replaced source ms opened tokens u opened' blank' tokens') word there in (
-      IsIdle-replaced source ms opened blank opened' blank' tokens tokens' (token_of kind at (at + n)) idle done,
-      SoFar-whole source ms start before at fresh tokens tokens' kind n f some h (done.told ∙ ap (λ ts. tokens ++ ts) (now_is_all source ms opened blank (token_of kind at (at + n)) idle)) s,
+pub SoFar-replaced : (source : List ℕ) (ms ms' : List Macro) (opened opened' : List Bool) (made made' : List Made) (start : ℕ) (before : List Token) (at : ℕ) (fresh : Bool) (tokens tokens' : List Token) (kind : TokenKind) (n : ℕ) (t : Token)
+    → ms' ≡ ms → t ≡ token_of kind at (at + n) → front_of (drop at source) ≡ Whole kind n → 0 < n → n ≤ length (drop at source) → IsIdle source ms opened made → Replaced source ms' opened tokens t opened' made' tokens'
+    → SoFar source ms start before at fresh tokens → IsIdle source ms opened' made' × MadeFits source ms opened' made' tokens' × SoFar source ms start before (at + n) false tokens'
+SoFar-replaced source ms ms' opened opened' made made' start before at fresh tokens tokens' kind n t same word f some h idle r s =
+    let there = subst (λ (ns : List Macro). Replaced source ns opened tokens t opened' made' tokens') same r in
+    let done = subst (λ (u : Token). Replaced source ms opened tokens u opened' made' tokens') word there in (
+      IsIdle-replaced source ms opened opened' made made' tokens tokens' (token_of kind at (at + n)) idle done,
+      done.fits,
+      SoFar-whole source ms start before at fresh tokens tokens' kind n f some h (done.told ∙ ap (λ ts. tokens ++ ts) (now_is_all source ms opened made (token_of kind at (at + n)) idle)) s,
     )
 
 -- or passes the limit
-pub SoFar-refused : (source : List ℕ) (ms ms' : List Macro) (opened blank : List Bool) (start : ℕ) (before : List Token) (at : ℕ) (fresh : Bool) (tokens : List Token) (kind : TokenKind) (n : ℕ) (t : Token) (stop : Stop)
-    → ms' ≡ ms → t ≡ token_of kind at (at + n) → front_of (drop at source) ≡ Whole kind n → 0 < n → n ≤ length (drop at source) → IsIdle source ms opened blank → Passes t.at tokens (now_replaced source t.at ms' opened t) stop
+pub SoFar-refused : (source : List ℕ) (ms ms' : List Macro) (opened : List Bool) (made : List Made) (start : ℕ) (before : List Token) (at : ℕ) (fresh : Bool) (tokens : List Token) (kind : TokenKind) (n : ℕ) (t : Token) (stop : Stop)
+    → ms' ≡ ms → t ≡ token_of kind at (at + n) → front_of (drop at source) ≡ Whole kind n → 0 < n → n ≤ length (drop at source) → IsIdle source ms opened made → Passes t.at tokens (now_replaced source t.at ms' opened t) stop
     → SoFar source ms start before at fresh tokens → WordsStop source ms start before stop
-SoFar-refused source ms ms' opened blank start before at fresh tokens kind n t stop same word f some h idle p s =
+SoFar-refused source ms ms' opened made start before at fresh tokens kind n t stop same word f some h idle p s =
     let there = subst (λ (ns : List Macro). Passes t.at tokens (now_replaced source t.at ns opened t) stop) same p in
     let done = subst (λ (u : Token). Passes u.at tokens (now_replaced source u.at ms opened u) stop) word there in
-    let all = subst (λ (ts : List Token). Passes (token_of kind at (at + n)).at tokens ts stop) (now_is_all source ms opened blank (token_of kind at (at + n)) idle) done in
+    let all = subst (λ (ts : List Token). Passes (token_of kind at (at + n)).at tokens ts stop) (now_is_all source ms opened made (token_of kind at (at + n)) idle) done in
     stops source ms start before stop (SoFar-passes source ms start before at fresh tokens kind n stop f some h all s)

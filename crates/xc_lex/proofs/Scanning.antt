@@ -1,6 +1,7 @@
 -- Reading on by one piece.
-use Rattle.std.proofs.Common.{◌≡◌, ◌≤◌, ◌<◌, ℕ, zero, suc, ◌+◌, ◌-◌, List, [], ◌∷◌, ◌++◌, length, drop, refl, ap, ◌∙◌, arith}
+use Rattle.std.proofs.Common.{◌≡◌, ◌≤◌, ◌<◌, ℕ, zero, suc, ◌+◌, ◌-◌, List, [], ◌∷◌, ◌++◌, length, drop, slice_range, refl, sym, ap, ◌∙◌, arith, length-drop}
 use Rattle.std.proofs.lemmas.Grind.{common_steps}
+use Rattle.std.proofs.lemmas.List.{take_rest}
 use Rattle.xc_lex.specs.declared.token.Token.{Token}
 use Rattle.xc_lex.specs.declared.token.TokenKind.{TokenKind}
 use Rattle.xc_lex.specs.declared.front.Front.{Front}
@@ -71,6 +72,19 @@ blanks_end Bad at more no_blank = refl
 pub blanks_stop : (front : List ℕ → Front) (at : ℕ) (bs : List ℕ) → ((n : ℕ) → front bs ≡ Blank n → ⊥) → blanks_from front 0 at bs ≡ at
 blanks_stop front at [] no_blank = refl
 blanks_stop front at (b ∷ bs) no_blank = blanks_end (front (b ∷ bs)) at (λ skip. blanks_from front skip (at + 1) bs) no_blank
+
+-- what stands at a place of a source, and how far it goes
+pub record StandsAt (front : List ℕ → Front) (source : List ℕ) (at n : ℕ) (v : Front) : Type 0 where
+  pub here : front (drop at source) ≡ v
+  pub fits : n ≤ length (drop at source)
+  pub within : at + n ≤ length source
+
+pub stands_at : (front : List ℕ → Front) (source : List ℕ) (at n : ℕ) (v : Front) → at ≤ length source → v ≡ front (slice_range source at (length source)) → n ≤ length (slice_range source at (length source)) → StandsAt front source at n v
+stands_at front source at n v inside value moves =
+    let whole = take_rest source at in
+    let size = ap length whole in
+    let rest = length-drop at source in
+    record { here = ap front (sym whole) ∙ sym value; fits = omega (arith, size, moves); within = omega (arith, size, rest, moves, inside) }
 
 -- the same within a source
 pub words_blank_at : (source : List ℕ) (at : ℕ) (found : List Token) (n : ℕ) → front_of (drop at source) ≡ Blank n → 0 < n → n ≤ length (drop at source) → words_from 0 at found (drop at source) ≡ words_from 0 (at + n) found (drop (at + n) source)

@@ -1,10 +1,12 @@
 -- A text has one list of tokens or one first fault.
-use Rattle.std.proofs.Common.{◌≡◌, ◌<◌, ℕ, zero, suc, ◌+◌, ◌-◌, List, [], ◌++◌, length, if◌then◌else◌, nat_lt, is_some, Option, Some, None, refl, sym, ap, ◌∙◌, arith}
+use Rattle.std.proofs.Common.{◌≡◌, ◌<◌, ℕ, zero, suc, ◌+◌, ◌-◌, List, [], ◌++◌, length, if◌then◌else◌, nat_lt, is_some, Option, Some, None, refl, sym, ap, ◌∙◌, subst, arith}
 use Rattle.std.proofs.lemmas.Bool.{lt-ltb, le-ltb}
+use Rattle.xc_span.specs.declared.Pos.{Pos}
+use Rattle.xc_span.specs.Place.{IsPosition}
 use Rattle.xc_lex.specs.declared.token.Token.{Token}
 use Rattle.xc_lex.specs.Macros.{Macros}
 use Rattle.xc_lex.specs.Lines.{Line, line_at}
-use Rattle.xc_lex.specs.Source.{Reached, first, next, AreTokens, IsFault, fault_of}
+use Rattle.xc_lex.specs.Source.{Reached, first, next, AreTokens, IsFault, fault_of, AreOnly, IsOnly}
 
 -- where a line begins, with what stands before it
 record State : Type 0 where
@@ -97,3 +99,13 @@ no_tokens source ts p a b =
     let same : s ≡ t = one_end source k.0 l.0 s t k.1 (last source s a.faultless a.last) l.1 (faulty source t p b.fault) in
     let both : None ≡ Some p = sym a.faultless ∙ ap (λ v. fault_of v.ts (line_in source v)) same ∙ b.fault in
     cc
+
+-- so the answer is the only one
+pub tokens_only : (source : List ℕ) (ts : List Token) → AreTokens source ts → AreOnly source ts
+tokens_only source ts h = record { once = λ us k. tokens_once source us ts k h; faultless = λ place k. no_tokens source ts place h k }
+
+pub fault_only : (source : List ℕ) (pos : Pos) (place : ℕ) → IsFault source place → IsPosition source place pos → IsOnly source pos
+fault_only source pos place h at = record {
+  once = λ p k. subst (λ (n : ℕ). IsPosition source n pos) (fault_once source place p h k) at;
+  tokenless = λ ts k. no_tokens source ts place k h;
+}

@@ -1,10 +1,14 @@
 -- The tokens of a text, and its first fault.
-use Rattle.std.specs.Prelude.{◌≡◌, ◌<◌, ℕ, ◌+◌, ◌^◌, List, [], ◌++◌, length, if◌then◌else◌, nat_le, Option, Some, None, slice_get}
+use Rattle.std.specs.Prelude.{◌≡◌, ◌<◌, ℕ, ◌+◌, ◌-◌, ◌^◌, ◌⊎◌, List, [], ◌++◌, length, drop, if◌then◌else◌, nat_le, Option, Some, None, slice_get}
 use Rattle.std.specs.Option.{option_map}
 use Rattle.xc_span.specs.Place.{IsPosition}
+use Rattle.xc_span.specs.declared.Pos.{Pos}
 use Rattle.xc_lex.specs.declared.token.Token.{Token}
+use Rattle.xc_lex.specs.declared.token.TokenKind.TheVariants.{Pragma}
+use Rattle.xc_lex.specs.declared.front.Front.TheVariants.{Whole, Hash}
 use Rattle.xc_lex.specs.declared.lexer.LexFault.{LexFault}
 use Rattle.xc_lex.specs.declared.lexer.LexFault.TheVariants.{NoMemory, At}
+use Rattle.xc_lex.specs.Front.{front_of}
 use Rattle.xc_lex.specs.Macros.{Macros}
 use Rattle.xc_lex.specs.Lines.{Line, line_at}
 
@@ -47,3 +51,23 @@ pub record IsFault (source : List ℕ) (place : ℕ) : Type 0 where
 abbrev pub FaultFits : List ℕ → LexFault → Type 0
 FaultFits source NoMemory = Unit {0}
 FaultFits source (At pos) = (place : ℕ) × IsFault source place × IsPosition source place pos
+
+-- a token's text is where the source has a token of its kind: as many of its bytes, or a line from its `#` on
+abbrev pub IsSpelled : List ℕ → Token → Type 0
+IsSpelled source t =
+    (front_of (drop t.text.start source) ≡ Whole t.kind (t.text.end - t.text.start))
+    ⊎ ((t.kind ≡ Pragma) × (front_of (drop t.text.start source) ≡ Hash))
+
+-- the text has no other tokens, and no fault
+pub record AreOnly (source : List ℕ) (tokens : List Token) : Type 0 where
+  pub once : (ts : List Token) → AreTokens source ts → ts ≡ tokens
+  pub faultless : (place : ℕ) → IsFault source place → ⊥
+
+-- its first fault is nowhere else, and it has no tokens
+pub record IsOnly (source : List ℕ) (pos : Pos) : Type 0 where
+  pub once : (place : ℕ) → IsFault source place → IsPosition source place pos
+  pub tokenless : (ts : List Token) → AreTokens source ts → ⊥
+
+abbrev pub IsOnlyFault : List ℕ → LexFault → Type 0
+IsOnlyFault source NoMemory = Unit {0}
+IsOnlyFault source (At pos) = IsOnly source pos

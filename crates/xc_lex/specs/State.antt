@@ -1,5 +1,5 @@
 -- The macros as the code keeps them, and what is still to be replaced.
-use Rattle.std.specs.Prelude.{◌≡◌, ◌≤◌, ◌<◌, ℕ, zero, suc, ◌+◌, ◌^◌, List, [], ◌∷◌, ◌++◌, length, map, sum_by, Bool, true, false, ◌==◌, if◌then◌else◌, Option, None, IsSome, slice_index_or, slice_set, drop}
+use Rattle.std.specs.Prelude.{◌≡◌, ◌≤◌, ◌<◌, ℕ, zero, suc, ◌+◌, ◌^◌, List, [], ◌∷◌, ◌++◌, length, map, sum_by, Bool, true, false, ◌==◌, ◌⊎◌, if◌then◌else◌, Option, None, IsSome, slice_index_or, slice_set, slice_range, drop}
 use Rattle.std.specs.List.{flat_map, list_any}
 use Rattle.std.specs.Option.{option_map_or}
 use Rattle.std.specs.Str.{bytes_eq}
@@ -7,9 +7,10 @@ use Rattle.xc_span.specs.declared.Span.{Span}
 use Rattle.xc_lex.specs.declared.token.Token.{Token}
 use Rattle.xc_lex.specs.declared.token.TokenKind.TheVariants.{Name}
 use Rattle.xc_lex.specs.declared.macros.Macro.{Macro}
+use Rattle.xc_lex.specs.declared.macros.Made.{Made}
 use Rattle.xc_lex.specs.declared.macros.Frame.{Frame}
 use Rattle.xc_lex.specs.declared.macros.Turn.{Turn}
-use Rattle.xc_lex.specs.declared.macros.Turn.TheVariants.{Keep, Skip, Enter}
+use Rattle.xc_lex.specs.declared.macros.Turn.TheVariants.{Keep, Copy, Enter}
 use Rattle.xc_lex.specs.declared.stop.Stop.{Stop}
 use Rattle.xc_lex.specs.declared.stop.Stop.TheVariants.{NoMemory, At}
 use Rattle.xc_lex.specs.Macros.{Macros, bytes_of, without, replacement, replaced}
@@ -63,42 +64,65 @@ pub record Names (source : List ℕ) (ms : List Macro) (t : Token) (i : ℕ) : T
 abbrev pub NamesNone : List ℕ → List Macro → Token → Type 0
 NamesNone source ms t = (opened : List Bool) → replacement source (visible source ms opened) t ≡ None
 
--- a token is the name of a macro with a flag
-abbrev pub NamesBlank : List ℕ → List Macro → List Bool → Token → Type 0
-NamesBlank source ms blank t = (i : ℕ) × Names source ms t i × (is_set blank i ≡ true)
+-- no macro is opened
+abbrev pub shut : List Macro → List Bool
+shut [] = []
+shut (m ∷ ms) = false ∷ shut ms
 
-abbrev pub AllNameBlank : List ℕ → List Macro → List Bool → List Token → Type 0
-AllNameBlank source ms blank [] = Unit {0}
-AllNameBlank source ms blank (t ∷ ts) = NamesBlank source ms blank t × AllNameBlank source ms blank ts
+-- where the tokens stand that a macro stands for, if they were made
+abbrev pub made_of : List Made → ℕ → Made
+made_of made i = slice_index_or made i (record { from = 0; to = 0; macros = 0 })
 
--- each of the tokens is the name of one of these macros
-abbrev pub AreNamesOf : List ℕ → List Macro → List ℕ → List Token → Type 0
-AreNamesOf source ms known [] = Unit {0}
-AreNamesOf source ms known (t ∷ ts) =
-    ((i : ℕ) × Names source ms t i × (is_in i known ≡ true)) × AreNamesOf source ms known ts
+-- they were, behind the last `define`
+abbrev pub is_made : List Macro → List Made → ℕ → Bool
+is_made ms made i = (made_of made i).macros == length ms
 
--- macros that expand to nothing, each of names of those behind it
-abbrev pub AreBlank : List ℕ → List Macro → List ℕ → Type 0
-AreBlank source ms [] = Unit {0}
-AreBlank source ms (i ∷ known) = (is_in i known ≡ false) × AreNamesOf source ms known (tokens_of ms i) × AreBlank source ms known
+-- a token is the name of no macro, or of one whose tokens were made
+unfoldable pub IsSettled : List ℕ → List Macro → List Made → Token → Type 0
+IsSettled source ms made t = NamesNone source ms t ⊎ ((i : ℕ) × Names source ms t i × (is_made ms made i ≡ true))
 
--- the flags name macros that expand to nothing, and none of them is opened
-pub record FlagsFit (source : List ℕ) (ms : List Macro) (opened blank : List Bool) : Type 0 where
-  pub known : List ℕ
-  pub are_blank : AreBlank source ms known
-  pub flagged : (i : ℕ) → is_set blank i ≡ is_in i known
-  pub closed : (i : ℕ) → is_in i known ≡ true → is_set opened i ≡ false
+abbrev pub AllSettled : List ℕ → List Macro → List Made → List Token → Type 0
+AllSettled source ms made [] = Unit {0}
+AllSettled source ms made (t ∷ ts) = IsSettled source ms made t × AllSettled source ms made ts
 
--- the macros as they are kept
-pub record IsKept (source : List ℕ) (ms : List Macro) (opened blank : List Bool) : Type 0 where
-  pub opened_len : length opened ≡ length ms
-  pub blank_len : length blank ≡ length ms
-  pub apart : AreApart source ms
-  pub flags : FlagsFit source ms opened blank
+-- each of the tokens is the name of no macro, or of one of these
+abbrev pub AreOf : List ℕ → List Macro → List ℕ → List Token → Type 0
+AreOf source ms known [] = Unit {0}
+AreOf source ms known (t ∷ ts) = (NamesNone source ms t ⊎ ((i : ℕ) × Names source ms t i × (is_in i known ≡ true))) × AreOf source ms known ts
+
+-- macros none of which is in its own expansion: each names those behind it alone
+abbrev pub AreOrdered : List ℕ → List Macro → List ℕ → Type 0
+AreOrdered source ms [] = Unit {0}
+AreOrdered source ms (i ∷ known) = (is_in i known ≡ false) × AreOf source ms known (tokens_of ms i) × AreOrdered source ms known
+
+-- a token at another place
+abbrev pub moved : Span → Token → Token
+moved at t = record t { at = at }
 
 -- what a token is replaced by under the visible macros
 abbrev pub now_replaced : List ℕ → Span → List Macro → List Bool → Token → List Token
 now_replaced source at ms opened t = replaced source at (length (visible source ms opened)) (visible source ms opened) t
+
+-- the tokens of a macro, replaced, stand in a range of the tokens
+pub record IsPlaced (source : List ℕ) (ms : List Macro) (tokens : List Token) (i : ℕ) (m : Made) : Type 0 where
+  pub ordered : m.from ≤ m.to
+  pub within : m.to ≤ length tokens
+  pub same : (at : Span) → map (moved at) (slice_range tokens m.from m.to) ≡ flat_map (now_replaced source at ms (slice_set (shut ms) i true)) (tokens_of ms i)
+
+-- the macros whose tokens were made: none of them is opened, and what each stands for is where it is said to be
+pub record MadeFits (source : List ℕ) (ms : List Macro) (opened : List Bool) (made : List Made) (tokens : List Token) : Type 0 where
+  pub known : List ℕ
+  pub ordered : AreOrdered source ms known
+  pub flagged : (i : ℕ) → i < length ms → is_made ms made i ≡ is_in i known
+  pub closed : (i : ℕ) → is_in i known ≡ true → is_set opened i ≡ false
+  pub placed : (i : ℕ) → is_in i known ≡ true → IsPlaced source ms tokens i (made_of made i)
+
+-- the macros as they are kept
+pub record IsKept (source : List ℕ) (ms : List Macro) (opened : List Bool) (made : List Made) : Type 0 where
+  pub opened_len : length opened ≡ length ms
+  pub made_len : length made ≡ length ms
+  pub apart : AreApart source ms
+  pub past : (i : ℕ) → (made_of made i).macros ≤ length ms
 
 -- what the frames, the innermost first, have still to give
 abbrev pub pending : List ℕ → Span → List Macro → List Bool → List Frame → List Token
@@ -135,29 +159,46 @@ frames_cost source ms opened [] = 0
 frames_cost source ms opened (f ∷ fs) =
     1 + sum_by (now_cost source ms opened) (drop f.next (tokens_of ms f.number)) + frames_cost source ms (slice_set opened f.number false) fs
 
--- the token is kept as it is, or stands for nothing, or for the tokens of a macro that is not opened
-abbrev pub TurnFits : List ℕ → List Macro → List Bool → List Bool → Token → Turn → Type 0
-TurnFits source ms opened blank t Keep = replacement source (visible source ms opened) t ≡ None
-TurnFits source ms opened blank t Skip = NamesBlank source ms blank t
-TurnFits source ms opened blank t (Enter i) = Names source ms t i × (is_set opened i ≡ false) × (is_set blank i ≡ false)
+-- the token is kept as it is, or stands for tokens that were made, or for those of a macro that is not opened
+abbrev pub TurnFits : List ℕ → List Macro → List Bool → List Made → Token → Turn → Type 0
+TurnFits source ms opened made t Keep = replacement source (visible source ms opened) t ≡ None
+TurnFits source ms opened made t (Copy i) = Names source ms t i × (is_made ms made i ≡ true)
+TurnFits source ms opened made t (Enter i) = Names source ms t i × (is_set opened i ≡ false) × (is_made ms made i ≡ false)
 
 -- what is added to the tokens passes the limit, with a token that stands at this place
 abbrev pub Passes : Span → List Token → List Token → Stop → Type 0
 Passes at ts more NoMemory = Unit {0}
 Passes at ts more (At place) = (place ≡ at.start) × (length ts ≤ 2 ^ 20) × (2 ^ 20 < length (ts ++ more))
 
+-- what a macro stands for is what was made behind as many tokens
+pub record IsMadeBy (source : List ℕ) (ms : List Macro) (opened : List Bool) (tokens : List Token) (f : Frame) : Type 0 where
+  pub at : Span
+  pub before : List Token
+  pub size : length before ≡ f.from
+  pub same : tokens ≡ before ++ flat_map (now_replaced source at ms opened) (tokens_of ms f.number)
+
+-- each of the frames makes what its macro stands for
+abbrev pub AreSpans : List ℕ → Span → List Macro → List Bool → List Token → List Frame → Type 0
+AreSpans source at ms opened tokens [] = Unit {0}
+AreSpans source at ms opened tokens (f ∷ fs) =
+    let all = tokens ++ flat_map (now_replaced source at ms opened) (drop f.next (tokens_of ms f.number)) in
+    IsMadeBy source ms opened all f × AreSpans source at ms (slice_set opened f.number false) all fs
+
 -- a token was read: what it stands for was added, or is the first that is pending
-pub record Entered (source : List ℕ) (at : Span) (ms : List Macro) (opened : List Bool) (frames : List Frame) (tokens : List Token) (t : Token) (opened' blank' : List Bool) (frames' : List Frame) (tokens' : List Token) : Type 0 where
-  pub kept : IsKept source ms opened' blank'
+pub record Entered (source : List ℕ) (at : Span) (ms : List Macro) (opened : List Bool) (frames : List Frame) (tokens : List Token) (t : Token) (opened' : List Bool) (made' : List Made) (frames' : List Frame) (tokens' : List Token) : Type 0 where
+  pub kept : IsKept source ms opened' made'
+  pub fits : MadeFits source ms opened' made' tokens'
   pub within : AreWithin ms frames → AreWithin ms frames'
   pub unwinds : unwound opened' frames' ≡ unwound opened frames
+  pub spans : AreSpans source at ms opened (tokens ++ now_replaced source at ms opened t) frames → AreSpans source at ms opened' tokens' frames'
   pub told : tokens' ++ pending source at ms opened' frames' ≡ tokens ++ (now_replaced source at ms opened t ++ pending source at ms opened frames)
   pub cheaper : frames_cost source ms opened' frames' < now_cost source ms opened t + frames_cost source ms opened frames
   pub few : length tokens' ≤ 2 ^ 20
 
 -- what a token stands for was added
-pub record Replaced (source : List ℕ) (ms : List Macro) (opened : List Bool) (tokens : List Token) (t : Token) (opened' blank' : List Bool) (tokens' : List Token) : Type 0 where
-  pub kept : IsKept source ms opened' blank'
+pub record Replaced (source : List ℕ) (ms : List Macro) (opened : List Bool) (tokens : List Token) (t : Token) (opened' : List Bool) (made' : List Made) (tokens' : List Token) : Type 0 where
+  pub kept : IsKept source ms opened' made'
+  pub fits : MadeFits source ms opened' made' tokens'
   pub unwinds : opened' ≡ opened
   pub told : tokens' ≡ tokens ++ now_replaced source t.at ms opened t
   pub few : length tokens' ≤ 2 ^ 20

@@ -3,6 +3,7 @@ use Rattle.std.specs.Prelude.{◌≡◌, ◌≤◌, ℕ, ◌^◌, List, [], ◌�
 use Rattle.xc_lex.specs.declared.token.Token.{Token}
 use Rattle.xc_lex.specs.declared.token.TokenKind.TheVariants.{Pragma}
 use Rattle.xc_lex.specs.declared.macros.Macro.{Macro}
+use Rattle.xc_lex.specs.declared.macros.Made.{Made}
 use Rattle.xc_lex.specs.declared.stop.Stop.{Stop}
 use Rattle.xc_lex.specs.declared.stop.Stop.TheVariants.{NoMemory, At}
 use Rattle.xc_lex.specs.declared.front.Front.{Front}
@@ -12,15 +13,15 @@ use Rattle.xc_lex.specs.Front.{front_of, rest_front_of}
 use Rattle.xc_lex.specs.Macros.{Macros, replaced, expanded}
 use Rattle.xc_lex.specs.Lines.{Words, words_at, words_from, Line, good, bad, rest_line, body_line, pragma_at, token_of}
 use Rattle.xc_lex.specs.Source.{fault_of}
-use Rattle.xc_lex.specs.State.{all_of, visible, IsKept, Passes}
+use Rattle.xc_lex.specs.State.{all_of, visible, IsKept, MadeFits, Passes}
 
 abbrev pub front_in : Part → List ℕ → Front
 front_in Tokens = front_of
 front_in Rest = rest_front_of
 
 -- no macro is opened
-pub record IsIdle (source : List ℕ) (ms : List Macro) (opened blank : List Bool) : Type 0 where
-  pub kept : IsKept source ms opened blank
+pub record IsIdle (source : List ℕ) (ms : List Macro) (opened : List Bool) (made : List Made) : Type 0 where
+  pub kept : IsKept source ms opened made
   pub idle : visible source ms opened ≡ all_of source ms
 
 abbrev pub is_nil : List Token → Bool
@@ -54,8 +55,9 @@ WordsStop source ms start before NoMemory = Unit {0}
 WordsStop source ms start before (At place) = TooMany source ms start before (At place)
 
 -- a line was read
-pub record LineRead (source : List ℕ) (line : Line) (before : List Token) (at : ℕ) (ms : List Macro) (opened blank : List Bool) (tokens : List Token) : Type 0 where
-  pub idle : IsIdle source ms opened blank
+pub record LineRead (source : List ℕ) (line : Line) (before : List Token) (at : ℕ) (ms : List Macro) (opened : List Bool) (made : List Made) (tokens : List Token) : Type 0 where
+  pub idle : IsIdle source ms opened made
+  pub fits : MadeFits source ms opened made tokens
   pub faultless : fault_of before line ≡ None
   pub stop : line.stop ≡ at
   pub macros : line.macros ≡ all_of source ms
@@ -84,9 +86,10 @@ abbrev pub BodyStops : Words → Stop → Type 0
 BodyStops words NoMemory = Unit {0}
 BodyStops words (At place) = (ms : Macros) → (name : List ℕ) → body_line words.front ms name words.found words.stop ≡ bad ms [] place
 
--- a directive was read, with these tokens
-pub record DirectiveRead (source : List ℕ) (line : Line) (ts : List Token) (at : ℕ) (ms : List Macro) (opened blank : List Bool) : Type 0 where
-  pub idle : IsIdle source ms opened blank
+-- a directive was read, with these tokens. What was made before is forgotten
+pub record DirectiveRead (source : List ℕ) (line : Line) (ts : List Token) (at : ℕ) (ms : List Macro) (opened : List Bool) (made : List Made) : Type 0 where
+  pub idle : IsIdle source ms opened made
+  pub fits : (tokens : List Token) → MadeFits source ms opened made tokens
   pub same : line ≡ good (all_of source ms) ts at
 
 abbrev pub DirectiveStops : Line → Macros → Stop → Type 0

@@ -5,36 +5,42 @@ ghost use Rattle.std.specs.List.{prefix_len};
 ghost use Rattle.xc_lex.specs.Bytes.{is_name_start, is_name_char, is_digit, is_blank, is_printable, is_source, is_in_line};
 ghost use Rattle.xc_lex.specs.Numbers.{is_among, digit_value, is_digit_of};
 
+/// Whether a name may begin with the byte.
 pub fn is_name_start(b: u8) -> bool
     ensures { result ≡ is_name_start b }
 {
     b.is_ascii_alphabetic() || b == b'_' || b == b'$'
 }
 
+/// Whether the byte is a decimal digit.
 pub fn is_digit(b: u8) -> bool
     ensures { result ≡ is_digit b }
 {
     b.is_ascii_digit()
 }
 
+/// Whether the byte may stand in a name.
 pub fn is_name_char(b: u8) -> bool
     ensures { result ≡ is_name_char b }
 {
     is_name_start(b) || is_digit(b)
 }
 
+/// Whether the byte is white space within a line.
 pub fn is_blank(b: u8) -> bool
     ensures { result ≡ is_blank b }
 {
     matches!(b, b' ' | b'\t' | b'\r' | b'\x0c')
 }
 
+/// Whether the byte is printable ASCII.
 pub fn is_printable(b: u8) -> bool
     ensures { result ≡ is_printable b }
 {
     (b' '..=b'~').contains(&b)
 }
 
+/// Whether the byte may stand in a line outside comments.
 pub fn is_source(b: u8) -> bool
     ensures { result ≡ is_source b }
 {

@@ -1,8 +1,9 @@
 //! The tokens of a text.
 
 ghost use Rattle.std.specs.Prelude.{◌≡◌, ◌≤◌, ◌<◌, ◌^◌, ◌+◌, List, length, IfOk, IfErr, slice_get, ◌==◌};
+ghost use Rattle.std.specs.List.{All};
 ghost use Rattle.std.specs.Option.{option_copied};
-ghost use Rattle.xc_lex.specs.Source.{AreTokens, FaultFits};
+ghost use Rattle.xc_lex.specs.Source.{AreTokens, AreOnly, IsSpelled, FaultFits, IsOnlyFault};
 
 use crate::lines::read_line;
 use crate::macros::Macros;
@@ -72,12 +73,16 @@ pub enum LexFault {
     At(Pos),
 }
 
-/// The tokens of a text, with macros replaced. It takes time in proportion to the text, the tokens
-/// and the names of macros that are met while they are replaced.
+/// The tokens of a text, with macros replaced. It takes time in proportion to the text and the
+/// tokens, with two exceptions: behind each `define` line the macros that are used are expanded anew
+/// once, and one whose expansion comes back to a macro that is being replaced, at each use.
 pub fn lex(alloc: Global, source: &[u8]) -> Result<Tokens, LexFault>
     requires { length source.now ≤ 2 ^ 20 }
     ensures tokens { IfOk result (λ tokens. AreTokens source.now tokens) }
+    ensures only_tokens { IfOk result (λ tokens. AreOnly source.now tokens) }
+    ensures spelled { IfOk result (λ tokens. All (IsSpelled source.now) tokens) }
     ensures fault { IfErr result (λ e. FaultFits source.now e) }
+    ensures only_fault { IfErr result (λ e. IsOnlyFault source.now e) }
 {
     let mut macros = Macros::new(alloc);
     let mut tokens = Vec::new(alloc);

@@ -4,7 +4,7 @@ ghost use Rattle.std.specs.Prelude.{◌≡◌, ◌≤◌, ◌<◌, ◌^◌, ◌+
 ghost use Rattle.xc_lex.specs.Front.{front_of, rest_front_of, Moves};
 ghost use Rattle.xc_lex.specs.Lines.{token_of, words_at, words_from, blanks_from, past_rest, line_at, directive_of, directive_at, named, define_at, include_at, pragma_at, bad};
 ghost use Rattle.xc_lex.specs.Numbering.{number_in};
-ghost use Rattle.xc_lex.specs.State.{AreNumbered, all_of};
+ghost use Rattle.xc_lex.specs.State.{AreNumbered, MadeFits, all_of};
 ghost use Rattle.xc_lex.specs.Steps.{front_in, IsIdle, SoFar, AllWords, WordsStop, LineRead, LineStops, RestEnds, RestStops, BodyEnds, BodyStops, DirectiveRead, DirectiveStops, PragmaRead, PragmaStops};
 
 use crate::front::{Front, front_at, rest_front_at};
@@ -119,14 +119,16 @@ fn read_words(
     macros: &mut Macros,
     tokens: &mut Vec<Token>,
 ) -> Result<Words, Stop>
-    requires idle { IsIdle source.now macros.old.entries.items macros.old.opened.items macros.old.blank.items }
+    requires idle { IsIdle source.now macros.old.entries.items macros.old.opened.items macros.old.made.items }
     requires numbered { AreNumbered source.now macros.old.entries.items (number_in macros.old.numbers) }
+    requires fits { MadeFits source.now macros.old.entries.items macros.old.opened.items macros.old.made.items tokens.old.items }
     requires few { length tokens.old.items ≤ 2 ^ 20 }
     requires within { start ≤ length source.now }
     requires short { length source.now ≤ 2 ^ 20 }
     ensures entries { macros.new.entries.items ≡ macros.old.entries.items }
     ensures numbers { macros.new.numbers ≡ macros.old.numbers }
-    ensures idle { IfOk result (λ _. IsIdle source.now macros.old.entries.items macros.new.opened.items macros.new.blank.items) }
+    ensures idle { IfOk result (λ _. IsIdle source.now macros.old.entries.items macros.new.opened.items macros.new.made.items) }
+    ensures fits { IfOk result (λ _. MadeFits source.now macros.old.entries.items macros.new.opened.items macros.new.made.items tokens.new.items) }
     ensures ok { IfOk result (λ w. AllWords source.now macros.old.entries.items start tokens.old.items w.at w.front w.fresh tokens.new.items) }
     ensures few { IfOk result (λ _. length tokens.new.items ≤ 2 ^ 20) }
     ensures after { IfOk result (λ w. start ≤ w.at) }
@@ -196,11 +198,11 @@ fn read_define(
     from: usize,
     macros: &mut Macros,
 ) -> Result<usize, Stop>
-    requires idle { IsIdle source.now macros.old.entries.items macros.old.opened.items macros.old.blank.items }
+    requires idle { IsIdle source.now macros.old.entries.items macros.old.opened.items macros.old.made.items }
     requires numbered { AreNumbered source.now macros.old.entries.items (number_in macros.old.numbers) }
     requires within { from ≤ length source.now }
     requires short { length source.now ≤ 2 ^ 20 }
-    ensures ok { IfOk result (λ at. DirectiveRead source.now (define_at source.now (all_of source.now macros.old.entries.items) hash from) [] at macros.new.entries.items macros.new.opened.items macros.new.blank.items) }
+    ensures ok { IfOk result (λ at. DirectiveRead source.now (define_at source.now (all_of source.now macros.old.entries.items) hash from) [] at macros.new.entries.items macros.new.opened.items macros.new.made.items) }
     ensures numbered { IfOk result (λ _. AreNumbered source.now macros.new.entries.items (number_in macros.new.numbers)) }
     ensures after { IfOk result (λ at. from ≤ at) }
     ensures within { IfOk result (λ at. at ≤ length source.now) }
@@ -260,12 +262,13 @@ fn read_directive(
     macros: &mut Macros,
     tokens: &mut Vec<Token>,
 ) -> Result<usize, Stop>
-    requires idle { IsIdle source.now macros.old.entries.items macros.old.opened.items macros.old.blank.items }
+    requires idle { IsIdle source.now macros.old.entries.items macros.old.opened.items macros.old.made.items }
     requires numbered { AreNumbered source.now macros.old.entries.items (number_in macros.old.numbers) }
+    requires fits { MadeFits source.now macros.old.entries.items macros.old.opened.items macros.old.made.items tokens.old.items }
     requires few { length tokens.old.items ≤ 2 ^ 20 }
     requires start { hash < length source.now }
     requires short { length source.now ≤ 2 ^ 20 }
-    ensures ok { IfOk result (λ at. LineRead source.now (directive_at source.now (all_of source.now macros.old.entries.items) hash) tokens.old.items at macros.new.entries.items macros.new.opened.items macros.new.blank.items tokens.new.items) }
+    ensures ok { IfOk result (λ at. LineRead source.now (directive_at source.now (all_of source.now macros.old.entries.items) hash) tokens.old.items at macros.new.entries.items macros.new.opened.items macros.new.made.items tokens.new.items) }
     ensures numbered { IfOk result (λ _. AreNumbered source.now macros.new.entries.items (number_in macros.new.numbers)) }
     ensures after { IfOk result (λ at. hash ≤ at) }
     ensures within { IfOk result (λ at. at ≤ length source.now) }
@@ -294,12 +297,13 @@ pub fn read_line(
     macros: &mut Macros,
     tokens: &mut Vec<Token>,
 ) -> Result<usize, Stop>
-    requires idle { IsIdle source.now macros.old.entries.items macros.old.opened.items macros.old.blank.items }
+    requires idle { IsIdle source.now macros.old.entries.items macros.old.opened.items macros.old.made.items }
     requires numbered { AreNumbered source.now macros.old.entries.items (number_in macros.old.numbers) }
+    requires fits { MadeFits source.now macros.old.entries.items macros.old.opened.items macros.old.made.items tokens.old.items }
     requires few { length tokens.old.items ≤ 2 ^ 20 }
     requires within { start ≤ length source.now }
     requires short { length source.now ≤ 2 ^ 20 }
-    ensures ok { IfOk result (λ at. LineRead source.now (line_at source.now (all_of source.now macros.old.entries.items) start) tokens.old.items at macros.new.entries.items macros.new.opened.items macros.new.blank.items tokens.new.items) }
+    ensures ok { IfOk result (λ at. LineRead source.now (line_at source.now (all_of source.now macros.old.entries.items) start) tokens.old.items at macros.new.entries.items macros.new.opened.items macros.new.made.items tokens.new.items) }
     ensures numbered { IfOk result (λ _. AreNumbered source.now macros.new.entries.items (number_in macros.new.numbers)) }
     ensures after { IfOk result (λ at. start ≤ at) }
     ensures within { IfOk result (λ at. at ≤ length source.now) }

@@ -1,9 +1,9 @@
 //! Macros and their replacement.
 
-ghost use Rattle.std.specs.Prelude.{◌≡◌, ◌↔◌, ◌≤◌, ◌<◌, ◌^◌, ◌+◌, ◌++◌, ◌∷◌, [], length, ℕ, List, reverse, IfOk, IfErr, OnOk, IsTrue, MatchOption, slice_set, false, drop};
+ghost use Rattle.std.specs.Prelude.{◌≡◌, ◌↔◌, ◌≤◌, ◌<◌, ◌^◌, ◌+◌, ◌++◌, ◌∷◌, [], length, map, ℕ, List, reverse, IfOk, IfErr, OnOk, IsTrue, MatchOption, slice_set, slice_range, false, drop};
 ghost use Rattle.xc_lex.specs.Macros.{bytes_of, replaced};
 ghost use Rattle.xc_lex.specs.Numbering.{number_in};
-ghost use Rattle.xc_lex.specs.State.{all_of, visible, index_of, AreApart, AreNumbered, tokens_of, is_set, is_in, NamesNone, Names, NamesBlank, AllNameBlank, NextOf, Entered, Replaced, FlagsFit, IsKept, now_replaced, pending, unwound, AreWithin, now_cost, frames_cost, TurnFits, Passes};
+ghost use Rattle.xc_lex.specs.State.{all_of, visible, index_of, AreApart, AreNumbered, tokens_of, is_set, is_in, made_of, is_made, NamesNone, Names, IsSettled, AllSettled, NextOf, Entered, Replaced, MadeFits, IsKept, IsMadeBy, AreSpans, moved, now_replaced, pending, unwound, AreWithin, now_cost, frames_cost, TurnFits, Passes};
 
 use crate::numbers::Numbers;
 use crate::stop::Stop;
@@ -21,27 +21,37 @@ pub struct Macro {
     pub body: Vec<Token>,
 }
 
-/// The macros so far, which of them are being replaced, and which are known to stand for nothing.
+/// A range of a text's tokens: what a macro stands for, as long as there are no more macros than
+/// there were (0: it is not known).
+#[derive(Clone, Copy)]
+pub struct Made {
+    pub from: usize,
+    pub to: usize,
+    pub macros: usize,
+}
+
+/// The macros so far, which of them are being replaced, and where what they stand for was made.
 #[derive(Drop)]
 pub struct Macros {
     pub entries: Vec<Macro>,
     pub numbers: Numbers,
     pub opened: Vec<bool>,
-    pub blank: Vec<bool>,
+    pub made: Vec<Made>,
 }
 
-/// A macro that is being replaced, and the next of its tokens.
+/// A macro that is being replaced, the next of its tokens, and how many tokens the text had before.
 #[derive(Clone, Copy)]
 pub struct Frame {
     pub number: usize,
     pub next: usize,
+    pub from: usize,
 }
 
-/// What becomes of a token: it is kept, or stands for nothing, or for the tokens of a macro.
+/// What becomes of a token: it is kept, or stands for what a macro made, or for the tokens of one.
 #[derive(Clone, Copy)]
 pub enum Turn {
     Keep,
-    Skip,
+    Copy(usize),
     Enter(usize),
 }
 
@@ -58,18 +68,37 @@ fn index_of(entries: &[Macro], source: &[u8], name: &[u8]) -> usize
     entries.len()
 }
 
+/// Adds the tokens of a range once more, at another place.
+fn copy(made: Made, at: Span, tokens: &mut Vec<Token>) -> Result<(), Stop>
+    requires ordered { made.from ≤ made.to }
+    requires within { made.to ≤ length tokens.old.items }
+    requires few { length tokens.old.items ≤ 2 ^ 20 }
+    ensures ok { IfOk result (λ _. tokens.new.items ≡ tokens.old.items ++ map (moved at) (slice_range tokens.old.items made.from made.to)) }
+    ensures few { IfOk result (λ _. length tokens.new.items ≤ 2 ^ 20) }
+    ensures err { IfErr result (λ e. Passes at tokens.old.items (map (moved at) (slice_range tokens.old.items made.from made.to)) e) }
+{
+    if made.to - made.from > LIMIT - tokens.len() {
+        return Err(Stop::At(at.start as usize));
+    }
+    for i in made.from..made.to {
+        let token = tokens[i];
+        tokens.push(Token { at, ..token })?;
+    }
+    Ok(())
+}
+
 impl Macros {
     /// No macros.
     pub fn new(alloc: Global) -> Macros
         ensures entries { result.entries.items ≡ [] }
         ensures opened { result.opened.items ≡ [] }
-        ensures blank { result.blank.items ≡ [] }
+        ensures made { result.made.items ≡ [] }
     {
         Macros {
             entries: Vec::new(alloc),
             numbers: Numbers::new(alloc),
             opened: Vec::new(alloc),
-            blank: Vec::new(alloc),
+            made: Vec::new(alloc),
         }
     }
 
@@ -115,14 +144,18 @@ impl Macros {
         ensures entries { IfOk result (λ _. self.new.entries.items ≡ self.old.entries.items ++ record { name = name; body = body } ∷ []) }
         ensures numbered { IfOk result (λ _. AreNumbered source.now self.new.entries.items (number_in self.new.numbers)) }
         ensures opened { IfOk result (λ _. self.new.opened.items ≡ self.old.opened.items ++ false ∷ []) }
-        ensures blank { IfOk result (λ _. self.new.blank.items ≡ self.old.blank.items ++ false ∷ []) }
+        ensures made { IfOk result (λ _. self.new.made.items ≡ self.old.made.items ++ record { from = 0; to = 0; macros = 0 } ∷ []) }
         ensures err { IfErr result (λ e. e ≡ Stop.NoMemory) }
     {
         self.numbers
             .insert(alloc, name.of(source), self.entries.len())?;
         self.entries.push(Macro { name, body })?;
         self.opened.push(false)?;
-        self.blank.push(false)?;
+        self.made.push(Made {
+            from: 0,
+            to: 0,
+            macros: 0,
+        })?;
         Ok(())
     }
 
@@ -143,19 +176,35 @@ impl Macros {
         }
     }
 
+    /// Where the tokens were made that a macro stands for.
+    fn made_of(&self, number: usize) -> Made
+        requires { number < length self.now.made.items }
+        ensures { result ≡ made_of self.now.made.items number }
+    {
+        self.made[number]
+    }
+
+    /// Whether what a macro stands for was made, behind the last `define`.
+    fn is_made(&self, number: usize) -> bool
+        requires { number < length self.now.made.items }
+        ensures { result ≡ is_made self.now.entries.items self.now.made.items number }
+    {
+        self.made_of(number).macros == self.entries.len()
+    }
+
     /// What becomes of a token.
     fn turn(&self, source: &[u8], word: Token) -> Turn
-        requires kept { IsKept source.now self.now.entries.items self.now.opened.items self.now.blank.items }
+        requires kept { IsKept source.now self.now.entries.items self.now.opened.items self.now.made.items }
         requires numbered { AreNumbered source.now self.now.entries.items (number_in self.now.numbers) }
-        ensures { TurnFits source.now self.now.entries.items self.now.opened.items self.now.blank.items word result }
+        ensures { TurnFits source.now self.now.entries.items self.now.opened.items self.now.made.items word result }
     {
         match self.number_of(source, word) {
             None => Turn::Keep,
             Some(i) => {
                 if self.opened[i] {
                     Turn::Keep
-                } else if self.blank[i] {
-                    Turn::Skip
+                } else if self.is_made(i) {
+                    Turn::Copy(i)
                 } else {
                     Turn::Enter(i)
                 }
@@ -163,27 +212,28 @@ impl Macros {
         }
     }
 
-    /// Whether a token is the name of a macro that is known to stand for nothing.
-    fn is_blank(&self, source: &[u8], word: Token) -> bool
-        requires kept { IsKept source.now self.now.entries.items self.now.opened.items self.now.blank.items }
+    /// Whether a token is the name of no macro, or of one whose tokens were made.
+    #[tactic(auto, unfolding(crate::specs::State::IsSettled))]
+    fn is_settled(&self, source: &[u8], word: Token) -> bool
+        requires kept { IsKept source.now self.now.entries.items self.now.opened.items self.now.made.items }
         requires numbered { AreNumbered source.now self.now.entries.items (number_in self.now.numbers) }
-        ensures { IsTrue result → NamesBlank source.now self.now.entries.items self.now.blank.items word }
+        ensures { IsTrue result → IsSettled source.now self.now.entries.items self.now.made.items word }
     {
         match self.number_of(source, word) {
-            None => false,
-            Some(i) => self.blank[i],
+            None => true,
+            Some(i) => self.is_made(i),
         }
     }
 
     /// Whether each token of a macro is.
-    fn is_blank_body(&self, source: &[u8], number: usize) -> bool
-        requires kept { IsKept source.now self.now.entries.items self.now.opened.items self.now.blank.items }
+    fn is_settled_body(&self, source: &[u8], number: usize) -> bool
+        requires kept { IsKept source.now self.now.entries.items self.now.opened.items self.now.made.items }
         requires numbered { AreNumbered source.now self.now.entries.items (number_in self.now.numbers) }
         requires within { number < length self.now.entries.items }
-        ensures { IsTrue result → AllNameBlank source.now self.now.entries.items self.now.blank.items (tokens_of self.now.entries.items number) }
+        ensures { IsTrue result → AllSettled source.now self.now.entries.items self.now.made.items (tokens_of self.now.entries.items number) }
     {
         for word in self.body(number) {
-            if !self.is_blank(source, *word) {
+            if !self.is_settled(source, *word) {
                 return false;
             }
         }
@@ -199,12 +249,13 @@ impl Macros {
         stack: &mut Vec<Frame>,
         tokens: &mut Vec<Token>,
     ) -> Result<(), Stop>
-        requires kept { IsKept source.now self.old.entries.items self.old.opened.items self.old.blank.items }
+        requires kept { IsKept source.now self.old.entries.items self.old.opened.items self.old.made.items }
         requires numbered { AreNumbered source.now self.old.entries.items (number_in self.old.numbers) }
+        requires fits { MadeFits source.now self.old.entries.items self.old.opened.items self.old.made.items tokens.old.items }
         requires few { length tokens.old.items ≤ 2 ^ 20 }
         ensures entries { self.new.entries.items ≡ self.old.entries.items }
         ensures numbers { self.new.numbers ≡ self.old.numbers }
-        ensures ok { IfOk result (λ _. Entered source.now at self.old.entries.items self.old.opened.items (reverse stack.old.items) tokens.old.items word self.new.opened.items self.new.blank.items (reverse stack.new.items) tokens.new.items) }
+        ensures ok { IfOk result (λ _. Entered source.now at self.old.entries.items self.old.opened.items (reverse stack.old.items) tokens.old.items word self.new.opened.items self.new.made.items (reverse stack.new.items) tokens.new.items) }
         ensures err { IfErr result (λ e. Passes at tokens.old.items (now_replaced source.now at self.old.entries.items self.old.opened.items word) e) }
     {
         match self.turn(source, word) {
@@ -213,30 +264,43 @@ impl Macros {
                     return Err(Stop::At(at.start as usize));
                 }
                 tokens.push(Token { at, ..word })?;
-                Ok(())
             }
-            Turn::Skip => Ok(()),
+            Turn::Copy(number) => copy(self.made_of(number), at, tokens)?,
             Turn::Enter(number) => {
-                stack.push(Frame { number, next: 0 })?;
+                let from = tokens.len();
+                stack.push(Frame {
+                    number,
+                    next: 0,
+                    from,
+                })?;
                 self.opened[number] = true;
-                Ok(())
             }
         }
+        Ok(())
     }
 
-    /// Ends the replacement of a macro, and notes whether it stands for nothing.
-    fn leave(&mut self, source: &[u8], number: usize)
-        requires kept { IsKept source.now self.old.entries.items self.old.opened.items self.old.blank.items }
+    /// Ends the replacement of a macro, and notes where what it stands for was made, if that is so
+    /// wherever it is met.
+    fn leave(&mut self, source: &[u8], frame: Frame, tokens: &[Token])
+        requires kept { IsKept source.now self.old.entries.items self.old.opened.items self.old.made.items }
         requires numbered { AreNumbered source.now self.old.entries.items (number_in self.old.numbers) }
-        requires within { number < length self.old.entries.items }
+        requires fits { MadeFits source.now self.old.entries.items self.old.opened.items self.old.made.items tokens.now }
+        requires within { frame.number < length self.old.entries.items }
+        requires made { IsMadeBy source.now self.old.entries.items self.old.opened.items tokens.now frame }
         ensures entries { self.new.entries.items ≡ self.old.entries.items }
         ensures numbers { self.new.numbers ≡ self.old.numbers }
-        ensures opened { self.new.opened.items ≡ slice_set self.old.opened.items number false }
-        ensures kept { IsKept source.now self.old.entries.items self.new.opened.items self.new.blank.items }
+        ensures opened { self.new.opened.items ≡ slice_set self.old.opened.items frame.number false }
+        ensures kept { IsKept source.now self.old.entries.items self.new.opened.items self.new.made.items }
+        ensures fits { MadeFits source.now self.old.entries.items self.new.opened.items self.new.made.items tokens.now }
     {
+        let number = frame.number;
         self.opened[number] = false;
-        if !self.blank[number] && self.is_blank_body(source, number) {
-            self.blank[number] = true;
+        if !self.is_made(number) && self.is_settled_body(source, number) {
+            self.made[number] = Made {
+                from: frame.from,
+                to: tokens.len(),
+                macros: self.entries.len(),
+            };
         }
     }
 
@@ -271,19 +335,20 @@ impl Macros {
         word: Token,
         tokens: &mut Vec<Token>,
     ) -> Result<(), Stop>
-        requires kept { IsKept source.now self.old.entries.items self.old.opened.items self.old.blank.items }
+        requires kept { IsKept source.now self.old.entries.items self.old.opened.items self.old.made.items }
         requires numbered { AreNumbered source.now self.old.entries.items (number_in self.old.numbers) }
+        requires fits { MadeFits source.now self.old.entries.items self.old.opened.items self.old.made.items tokens.old.items }
         requires few { length tokens.old.items ≤ 2 ^ 20 }
         ensures entries { self.new.entries.items ≡ self.old.entries.items }
         ensures numbers { self.new.numbers ≡ self.old.numbers }
-        ensures ok { IfOk result (λ _. Replaced source.now self.old.entries.items self.old.opened.items tokens.old.items word self.new.opened.items self.new.blank.items tokens.new.items) }
+        ensures ok { IfOk result (λ _. Replaced source.now self.old.entries.items self.old.opened.items tokens.old.items word self.new.opened.items self.new.made.items tokens.new.items) }
         ensures err { IfErr result (λ e. Passes word.at tokens.old.items (now_replaced source.now word.at self.old.entries.items self.old.opened.items word) e) }
     {
         let mut stack = Vec::new(alloc);
         self.enter(source, word, word.at, &mut stack, tokens)?;
         'frames: while let Some(frame) = stack.pop() {
             match self.next_of(frame) {
-                None => self.leave(source, frame.number),
+                None => self.leave(source, frame, tokens),
                 Some((inner, next)) => {
                     stack.push(next)?;
                     self.enter(source, inner, word.at, &mut stack, tokens)?;

@@ -1,4 +1,4 @@
-use crate::{LexFault, TokenKind, lex};
+use crate::{LexFault, Number, TokenKind, lex, read_number};
 use std::alloc::Global;
 use std::process::Abort;
 use std::test::Fail;
@@ -48,8 +48,13 @@ fn check(rt: &impl Abort, alloc: Global, rows: &[(&[u8], &str)]) -> Result<(), F
 
 #[test]
 fn tokens_of_each_class(rt: HostRuntime) -> Result<(), Fail> {
-    let rows: [(&[u8], &str); 12] = [
+    let rows: [(&[u8], &str); 14] = [
         (b"", ""),
+        (b"/*\x80*/x // \xff", "nx"),
+        (
+            b"[](){}. ->++ -- & *+ - ~ ! / % << >> < > <= >= == != ^ | && || ? : ; = *= /= %= += -= <<= >>= &= ^= |= ,",
+            "p[ p] p( p) p{ p} p. p-> p++ p-- p& p* p+ p- p~ p! p/ p% p<< p>> p< p> p<= p>= p== p!= p^ p| p&& p|| p? p: p; p= p*= p/= p%= p+= p-= p<<= p>>= p&= p^= p|= p,",
+        ),
         (b" \t\r\n\x0c/* a\n*/ // b", ""),
         (b"int $a_1 futures future", "kint n$a_1 nfutures kfuture"),
         (b"goto _Bool sync", "kgoto k_Bool ksync"),
@@ -76,8 +81,10 @@ fn tokens_of_each_class(rt: HostRuntime) -> Result<(), Fail> {
 
 #[test]
 fn faults_stand_where_they_begin(rt: HostRuntime) -> Result<(), Fail> {
-    let rows: [(&[u8], &str); 30] = [
+    let rows: [(&[u8], &str); 38] = [
         (b"9223372036854775808", "1:1"),
+        (b"18446744073709551615", "1:1"),
+        (b"a\n/* b\n", "2:1"),
         (b"18446744073709551616u", "1:1"),
         (b"a 0x10000000000000000", "1:3"),
         (b"02000000000000000000000", "1:1"),
@@ -100,7 +107,13 @@ fn faults_stand_where_they_begin(rt: HostRuntime) -> Result<(), Fail> {
         (b"#define 1", "1:1"),
         (b"#define goto x", "1:1"),
         (b"#define A 1\n#define A 1", "2:1"),
+        (b"#define sync 1", "1:1"),
         (b"#define A @", "1:11"),
+        (b"#define A 1\n#define A @", "2:1"),
+        (b"#pragma \"/*\"", "1:10"),
+        (b"`", "1:1"),
+        (b" \\", "1:2"),
+        (b"a'b'", "1:2"),
         (b"#define A #", "1:11"),
         (b"#include <a/*b>", "1:12"),
         (b"#pragma \x80", "1:9"),
@@ -113,9 +126,19 @@ fn faults_stand_where_they_begin(rt: HostRuntime) -> Result<(), Fail> {
 
 #[test]
 fn macros_stand_for_their_tokens(rt: HostRuntime) -> Result<(), Fail> {
-    let rows: [(&[u8], &str); 9] = [
+    let rows: [(&[u8], &str); 13] = [
         (b"#define N 3 /* x\n y */ + 4\nN;N", "d3 p+ d4 p; d3 p+ d4"),
+        (b"#/**/define /* a */ N // b\nN x", "nx"),
         (b"#define A B\n#define B 1\nA", "d1"),
+        (b"#define A B\nA\n#define B 1\nA", "nB d1"),
+        (
+            b"#define A B B\n#define B 1 2\nA B A",
+            "d1 d2 d1 d2 d1 d2 d1 d2 d1 d2",
+        ),
+        (
+            b"#define A B x\n#define B A y\nA B A",
+            "nA ny nx nB nx ny nA ny nx",
+        ),
         (b"A\n#define A 1\nA", "nA d1"),
         (b"#define A x A y\nA", "nx nA ny"),
         (b"#define A B a\n#define B A b\nA B", "nA nb na nB na nb"),
@@ -125,4 +148,90 @@ fn macros_stand_for_their_tokens(rt: HostRuntime) -> Result<(), Fail> {
         (b"#define A 1\n#define B A\n#include A\nB", "d1"),
     ];
     check(&rt, rt.alloc(), &rows)
+}
+
+#[test]
+fn constants_have_values(rt: HostRuntime) -> Result<(), Fail> {
+    let rows: [(&[u8], Option<(u64, bool)>); 14] = [
+        (
+            b"9223372036854775807",
+            Some((9_223_372_036_854_775_807, false)),
+        ),
+        (b"9223372036854775808", None),
+        (
+            b"9223372036854775808u",
+            Some((9_223_372_036_854_775_808, true)),
+        ),
+        (b"18446744073709551615", None),
+        (b"18446744073709551615U", Some((u64::MAX, true))),
+        (b"18446744073709551616", None),
+        (b"18446744073709551616u", None),
+        (
+            b"0x7fffffffffffffff",
+            Some((9_223_372_036_854_775_807, false)),
+        ),
+        (
+            b"0X8000000000000000",
+            Some((9_223_372_036_854_775_808, true)),
+        ),
+        (b"0xFFFFFFFFFFFFFFFFu", Some((u64::MAX, true))),
+        (
+            b"0777777777777777777777LL",
+            Some((9_223_372_036_854_775_807, false)),
+        ),
+        (
+            b"01000000000000000000000l",
+            Some((9_223_372_036_854_775_808, true)),
+        ),
+        (b"0u", Some((0, true))),
+        (b"0x10000000000000000u", None),
+    ];
+    for (word, wanted) in &rows {
+        let wanted = wanted.map(|(value, unsigned)| Number { value, unsigned });
+        assert_eq!(&rt; read_number(word), wanted, "of {word:?}");
+    }
+    Ok(())
+}
+
+/// As many macros, each of which is the one before twice; the first one stands for these tokens.
+fn doubling(alloc: Global, first: &str, count: usize) -> Result<String, Fail> {
+    let mut text = format!(in alloc; "#define M0 {first}\n")?;
+    for i in 1..count {
+        text.push_str(format!(in alloc; "#define M{i} M{} M{}\n", i - 1, i - 1)?.as_str())?;
+    }
+    Ok(text)
+}
+
+/// What comes of a text: how many tokens, or the line and column of its fault.
+fn outcome(alloc: Global, text: &str) -> Result<String, Fail> {
+    if text.len() > 1 << 20 {
+        return Ok(format!(in alloc; "too long")?);
+    }
+    Ok(match lex(alloc, text.as_bytes()) {
+        Ok(tokens) => format!(in alloc; "{} tokens", tokens.len())?,
+        Err(LexFault::At(pos)) => format!(in alloc; "{}:{}", pos.line, pos.col)?,
+        Err(LexFault::NoMemory) => format!(in alloc; "no memory")?,
+    })
+}
+
+#[test]
+fn a_text_has_at_most_so_many_tokens(rt: HostRuntime) -> Result<(), Fail> {
+    let alloc = rt.alloc();
+    let rows = [
+        ("x", 21, "M20", "1048576 tokens"),
+        ("x", 21, "M20 y", "22:5"),
+        ("x", 21, "M20\n#pragma", "23:1"),
+        ("x", 60, "y M59", "61:3"),
+        ("", 60, "M59 x M59", "1 tokens"),
+    ];
+    for (first, count, end, wanted) in &rows {
+        let mut text = doubling(alloc, first, *count)?;
+        text.push_str(end)?;
+        assert_eq!(&rt;
+            outcome(alloc, text.as_str())?.as_str(),
+            *wanted,
+            "of {end}"
+        );
+    }
+    Ok(())
 }

@@ -25,10 +25,10 @@ returns-in_ok-define-in-Whole-Name-default-clause-ok c =
     let new = c.if-is_new.ensures.0 refl in
     let body = c.in_ok-body-in-Whole-Name-default in
     let bytes = ap (λ t. slice_range source t.text.start t.text.end) c.token_of.ensures in
-    let done = define_read source c.args.macros.now.entries.items c.args.macros.now.opened.items c.args.macros.now.blank.items c.args.hash c.args.from at named.n body.body.at
+    let done = define_read source c.args.macros.now.entries.items c.args.macros.now.opened.items c.args.macros.now.made.items c.args.hash c.args.from at named.n body.body.at
     (record { name = c.token_of.result.text; body = body.body.words }) there new body.ensures.ok bytes c.requires.idle in
     let pushed = c.in_ok-define-in-Whole-Name-default.ensures in
-    DirectiveRead-at source _ [] body.body.at _ _ _ _ _ _ pushed.entries pushed.opened pushed.blank done
+    DirectiveRead-at source _ [] body.body.at _ _ _ _ _ _ pushed.entries pushed.opened pushed.made done
 
 pub returns-else-is_new-clause-err : goal.returns-else-is_new-clause-err
 returns-else-is_new-clause-err c =

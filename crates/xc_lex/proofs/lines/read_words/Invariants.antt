@@ -1,4 +1,5 @@
 use Rattle.std.proofs.Common.{◌≡◌, ◌≤◌, ◌-◌, ◌^◌, length}
+use Rattle.xc_lex.specs.State.{MadeFits}
 use Rattle.xc_lex.specs.Steps.{IsIdle, SoFar}
 use Rattle.xc_lex.proofs.lines.read_words.Given as goal
 
@@ -8,7 +9,8 @@ invariant-words l = record {
   within : l.at ≤ length l.source;
   entries : l.macros.entries.items ≡ l.fn.macros.entries.items;
   numbers : l.macros.numbers ≡ l.fn.macros.numbers;
-  idle : IsIdle l.source l.fn.macros.entries.items l.macros.opened.items l.macros.blank.items;
+  idle : IsIdle l.source l.fn.macros.entries.items l.macros.opened.items l.macros.made.items;
+  fits : MadeFits l.source l.fn.macros.entries.items l.macros.opened.items l.macros.made.items l.tokens.items;
   so_far : SoFar l.source l.fn.macros.entries.items l.start l.fn.tokens.items l.at l.fresh l.tokens.items;
   few : length l.tokens.items ≤ 2 ^ 20;
 }

@@ -1,4 +1,4 @@
-use Rattle.std.proofs.Common.{◌≡◌, List, IsSome, sym, subst}
+use Rattle.std.proofs.Common.{List, sym, subst}
 use Rattle.xc_lex.specs.declared.macros.Macro.{Macro}
 use Rattle.xc_lex.specs.Numbering.{number_in}
 use Rattle.xc_lex.specs.State.{AreNumbered}

@@ -1,4 +1,4 @@
-use Rattle.std.proofs.Common.{◌≡◌, ◌≤◌, ◌∙◌, length, ap, arith, rules}
+use Rattle.std.proofs.Common.{◌≡◌, ◌∙◌, length, ap, arith, rules}
 use Rattle.xc_lex.specs.declared.token.TokenKind.TheVariants.{Name}
 use Rattle.xc_lex.specs.Macros.{bytes_of}
 use Rattle.xc_lex.specs.State.{index_of}
