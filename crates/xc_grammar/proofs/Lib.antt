@@ -1,0 +1,16 @@
+pub mod Links
+pub mod Needs
+pub mod Sound
+pub mod Rows
+pub mod Ends
+pub mod Tables
+pub mod Follow
+pub mod Machine
+pub mod Run
+pub mod PartsOf
+pub mod Expressions
+pub mod Operands
+pub mod Names
+pub mod Items
+pub mod Measure
+pub mod State

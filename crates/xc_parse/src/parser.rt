@@ -1,0 +1,134 @@
+//! The parser, which keeps its own stack.
+
+ghost use Rattle.std.specs.Prelude.{◌≡◌, ◌≤◌, ◌<◌, ◌+◌, ◌^◌, List, length, OnOk, IfOk, IfErr, slice_get, vec_len};
+ghost use Rattle.xc_grammar.specs.Plan.{act_of, look};
+ghost use Rattle.xc_span.specs.Place.{IsPosition};
+ghost use Rattle.xc_grammar.specs.Grammar.{Form, Derives};
+ghost use Rattle.xc_parse.specs.declared.parser.ParseFault.TheVariants.{NoMemory};
+ghost use Rattle.xc_parse.specs.Texts.{words_of, place_of, Pushed, FaultFits, HasOne};
+
+use std::alloc::{AllocError, AllocFailed, Global};
+use xc_grammar::{Class, Goal, Move, Shape, Spot, plan, start};
+use xc_lex::Tokens;
+use xc_raw::{Level, Rule, Word, word_of};
+use xc_span::{Pos, position};
+
+/// Why there is no tree.
+#[derive(Debug, Drop)]
+pub enum ParseFault {
+    NoMemory,
+    /// The first token after which no continuation is in the grammar, or the end of the text.
+    Syntax(Pos),
+}
+
+impl From<AllocError> for ParseFault {
+    ghost from_gives = { λ _ e. e ≡ NoMemory };
+
+    fn from(_: AllocError) -> ParseFault {
+        ParseFault::NoMemory
+    }
+}
+
+impl<T: Drop> From<AllocFailed<T>> for ParseFault {
+    ghost from_gives = { λ _ e. e ≡ NoMemory };
+
+    fn from(_: AllocFailed<T>) -> ParseFault {
+        ParseFault::NoMemory
+    }
+}
+
+/// What a move does besides new goals.
+#[derive(Clone, Copy)]
+enum Turn {
+    Wrong,
+    Shift,
+    Do(Shape),
+}
+
+/// Whether the tokens of a source have a tree. Needs time and memory linear in their number.
+pub fn recognise(alloc: Global, source: &[u8], tokens: &Tokens) -> Result<(), ParseFault>
+    requires { length source.now + 1 < 2 ^ 32 }
+    // The tokens have a derivation, and one only.
+    ensures found { OnOk result (HasOne (words_of source.now tokens.now)) }
+    // A fault is at the first token after which no text goes on, or at the end.
+    ensures fault { IfErr result (λ e. FaultFits source.now tokens.now e) }
+{
+    let count = tokens.len();
+    let mut goals = Vec::new(alloc);
+    goals.push(Goal::Read(Class::Node(Rule::Unit)))?;
+    let mut at = 0;
+    while let Some(goal) = goals.pop() {
+        match make_turn(&mut goals, plan(goal, word_at(source, tokens, at)))? {
+            Turn::Do(_) => {}
+            Turn::Shift => at += 1,
+            Turn::Wrong => return Err(ParseFault::Syntax(position_at(source, tokens, at))),
+        }
+    }
+    if at < count {
+        return Err(ParseFault::Syntax(position_at(source, tokens, at)));
+    }
+    Ok(())
+}
+
+/// The word of a token, or `Foreign` at the end.
+fn word_at(source: &[u8], tokens: &Tokens, at: usize) -> Word
+    ensures { result ≡ look (slice_get (words_of source.now tokens.now) at) }
+{
+    match tokens.get(at) {
+        Some(token) => word_of(source, token),
+        None => Word::Foreign,
+    }
+}
+
+/// Where a token stands, or the end of the source.
+fn position_at(source: &[u8], tokens: &Tokens, at: usize) -> Pos
+    requires { length source.now + 1 < 2 ^ 32 }
+    ensures { IsPosition source.now (place_of (length source.now) (slice_get tokens.now at)) result }
+{
+    let place = match tokens.get(at) {
+        Some(token) => token.at.start as usize,
+        None => source.len(),
+    };
+    position(source, place)
+}
+
+/// The goals of a move, and what it does besides.
+fn make_turn(goals: &mut Vec<Goal>, step: Move) -> Result<Turn, AllocError>
+    ensures { IfOk result (λ t. Pushed (act_of step) t goals.old.items goals.new.items) }
+{
+    match step {
+        Move::Wrong => Ok(Turn::Wrong),
+        Move::Shift(new) => {
+            goals.extend_from_slice(new)?;
+            Ok(Turn::Shift)
+        }
+        Move::Do(shape, new) => {
+            goals.extend_from_slice(new)?;
+            Ok(Turn::Do(shape))
+        }
+        Move::Next(spot) => {
+            goals.push(Goal::At(spot))?;
+            Ok(Turn::Shift)
+        }
+        Move::Part(class, spot) => {
+            goals.extend_from_slice(&[Goal::At(spot), Goal::Join, Goal::Read(class)])?;
+            Ok(Turn::Do(Shape::Keep))
+        }
+        Move::Begin(rule) => {
+            goals.push(Goal::At(start(rule)))?;
+            Ok(Turn::Do(Shape::Begin(rule)))
+        }
+        Move::Operands(last) => {
+            goals.extend_from_slice(&[Goal::Tail(Level::Product, last), Goal::Operand])?;
+            Ok(Turn::Do(Shape::Keep))
+        }
+        Move::Operator(level, last) => {
+            goals.extend_from_slice(&[Goal::Tail(level, last), Goal::At(Spot::BinaryOp(level))])?;
+            Ok(Turn::Do(Shape::Wrap(Rule::Binary(level))))
+        }
+        Move::Looser(level, last) => {
+            goals.push(Goal::Tail(level, last))?;
+            Ok(Turn::Do(Shape::Keep))
+        }
+    }
+}
