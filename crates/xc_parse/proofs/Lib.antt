@@ -1,1 +1,3 @@
-pub mod Turns
+mod Depth
+mod Changes
+mod Turns

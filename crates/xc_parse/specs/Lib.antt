@@ -1,1 +1,4 @@
+pub mod Depth
+pub mod Nodes
+pub mod Raws
 pub mod Texts

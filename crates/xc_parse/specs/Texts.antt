@@ -1,16 +1,22 @@
 -- The words of a text, and which fault it is.
-use Rattle.std.specs.Prelude.{◌≡◌, ℕ, List, ◌++◌, map, reverse, length, Option, Some, None, slice_get, slice_range}
+use Rattle.std.specs.Prelude.{◌≡◌, ℕ, List, [], ◌∷◌, ◌++◌, map, reverse, length, Option, Some, None, slice_get, slice_range}
 use Rattle.xc_lex.specs.declared.token.Token.{Token}
+use Rattle.xc_span.specs.declared.Pos.{Pos}
 use Rattle.xc_span.specs.Place.{IsPosition}
+use Rattle.xc_raw.specs.declared.tree.Raw.{Raw}
 use Rattle.xc_raw.specs.declared.word.Word.{Word}
 use Rattle.xc_raw.specs.Words.{word_of}
 use Rattle.xc_grammar.specs.declared.goals.Goal.{Goal}
 use Rattle.xc_grammar.specs.Grammar.{Form, Derives, Stops}
 use Rattle.xc_grammar.specs.Plan.{Act, does, shift, wrong}
+use Rattle.xc_parse.specs.declared.nodes.Nodes.{Nodes}
+use Rattle.xc_parse.specs.Depth.{IsShallow, IsFirstDeep}
+use Rattle.xc_parse.specs.Raws.{raws_of}
+use Rattle.xc_parse.specs.Nodes.{Builds, nowhere}
 use Rattle.xc_parse.specs.declared.parser.Turn.{Turn}
 use Rattle.xc_parse.specs.declared.parser.Turn.TheVariants as turn
 use Rattle.xc_parse.specs.declared.parser.ParseFault.{ParseFault}
-use Rattle.xc_parse.specs.declared.parser.ParseFault.TheVariants.{NoMemory, Syntax}
+use Rattle.xc_parse.specs.declared.parser.ParseFault.TheVariants.{NoMemory, Syntax, Depth}
 
 -- the words of the tokens of a source
 abbrev pub words_of : List ℕ → List Token → List Word
@@ -28,11 +34,36 @@ Pushed (shift new) turn.Shift old now = now ≡ old ++ reverse new
 Pushed wrong turn.Wrong old now = now ≡ old
 Pushed _ _ old now = ⊥
 
--- the words have a tree of the grammar, and one only
-abbrev pub HasOne : List Word → Type 0
-HasOne words = (f : Form) × Derives f words × ((g : Form) → Derives g words → f ≡ g)
+-- the one tree of the grammar that the words have
+pub record IsTree (words : List Word) (f : Form) : Type 0 where
+  pub derives : Derives f words
+  pub only : (g : Form) → Derives g words → f ≡ g
 
--- the fault is at the first place at which no text goes on
+-- the untyped tree is that of the one tree of the words, in which no node is too deep
+pub record Parsed (words : List Word) (raw : Raw) : Type 0 where
+  pub tree : Form
+  pub is_tree : IsTree words tree
+  pub shallow : IsShallow tree
+  pub made : raw ∷ [] ≡ raws_of 0 tree
+
+-- the first node of the words' one tree that is too deep begins at this token
+pub record IsTooDeep (words : List Word) (k : ℕ) : Type 0 where
+  pub tree : Form
+  pub is_tree : IsTree words tree
+  pub first : IsFirstDeep tree k
+
+-- this token, or the end of the source, stands there
+abbrev pub StandsAt : List ℕ → List Token → ℕ → Pos → Type 0
+StandsAt source tokens k pos = IsPosition source (place_of (length source) (slice_get tokens k)) pos
+
+-- why there is no tree: no text goes on behind the tokens before this place, or a node is too deep
 abbrev pub FaultFits : List ℕ → List Token → ParseFault → Type 0
 FaultFits source tokens NoMemory = Unit {0}
-FaultFits source tokens (Syntax pos) = (k : ℕ) × Stops (words_of source tokens) k × IsPosition source (place_of (length source) (slice_get tokens k)) pos
+FaultFits source tokens (Syntax pos) = (k : ℕ) × Stops (words_of source tokens) k × StandsAt source tokens k pos
+FaultFits source tokens (Depth pos) = (k : ℕ) × IsTooDeep (words_of source tokens) k × StandsAt source tokens k pos
+
+-- the nodes at work are the one tree of the words
+pub record IsDone (words : List Word) (n : Nodes) : Type 0 where
+  pub tree : Form
+  pub is_tree : IsTree words tree
+  pub builds : Builds nowhere (length words) (tree ∷ []) n

@@ -1,9 +1,10 @@
-//! Whether the tokens of a text have a tree, or where they stop to have one.
+//! The untyped tree of the tokens of a text, or where they stop to have one.
 #![tactic(auto)]
 
+mod nodes;
 mod parser;
 
-pub use parser::{ParseFault, recognise};
+pub use parser::{ParseFault, parse};
 
 #[cfg(test)]
 mod tests;

@@ -2,15 +2,15 @@
 
 ghost use Rattle.std.specs.Prelude.{◌≡◌, ◌≤◌, ◌<◌, ◌+◌, ◌^◌, List, length, OnOk, IfOk, IfErr, slice_get, vec_len};
 ghost use Rattle.xc_grammar.specs.Plan.{act_of, look};
-ghost use Rattle.xc_span.specs.Place.{IsPosition};
-ghost use Rattle.xc_grammar.specs.Grammar.{Form, Derives};
 ghost use Rattle.xc_parse.specs.declared.parser.ParseFault.TheVariants.{NoMemory};
-ghost use Rattle.xc_parse.specs.Texts.{words_of, place_of, Pushed, FaultFits, HasOne};
+ghost use Rattle.xc_parse.specs.Texts.{words_of, Pushed, Parsed, FaultFits, StandsAt, IsDone};
 
+use crate::nodes::Nodes;
 use std::alloc::{AllocError, AllocFailed, Global};
+use xc_depth::first_deeper;
 use xc_grammar::{Class, Goal, Move, Shape, Spot, plan, start};
 use xc_lex::Tokens;
-use xc_raw::{Level, Rule, Word, word_of};
+use xc_raw::{Level, Raw, Rule, Word, word_of};
 use xc_span::{Pos, position};
 
 /// Why there is no tree.
@@ -19,6 +19,8 @@ pub enum ParseFault {
     NoMemory,
     /// The first token after which no continuation is in the grammar, or the end of the text.
     Syntax(Pos),
+    /// The first token of the first node that is too deep, of a text that has a tree.
+    Depth(Pos),
 }
 
 impl From<AllocError> for ParseFault {
@@ -45,29 +47,58 @@ enum Turn {
     Do(Shape),
 }
 
-/// Whether the tokens of a source have a tree. Needs time and memory linear in their number.
-pub fn recognise(alloc: Global, source: &[u8], tokens: &Tokens) -> Result<(), ParseFault>
-    requires { length source.now + 1 < 2 ^ 32 }
-    // The tokens have a derivation, and one only.
-    ensures found { OnOk result (HasOne (words_of source.now tokens.now)) }
-    // A fault is at the first token after which no text goes on, or at the end.
+/// The greatest depth of a node.
+const DEPTH_LIMIT: usize = 128;
+
+/// The untyped tree of the tokens of a source. Needs time and memory linear in their number. Where rules that do not
+/// count for the depth, as braces of initialisers, nest 4,096 deep, it answers `NoMemory`: dropping such a tree would
+/// take too much host stack.
+pub fn parse(alloc: Global, source: &[u8], tokens: &Tokens) -> Result<Raw, ParseFault>
+    requires short { length source.now + 1 < 2 ^ 32 }
+    requires few { length tokens.now < 2 ^ 32 }
+    // The tokens have a derivation, one only and none of its nodes too deep, and this is its tree.
+    ensures found { IfOk result (Parsed (words_of source.now tokens.now)) }
+    // A fault is at the first token after which no text goes on, or at the end, or at the first node that is too deep.
     ensures fault { IfErr result (λ e. FaultFits source.now tokens.now e) }
 {
-    let count = tokens.len();
     let mut goals = Vec::new(alloc);
     goals.push(Goal::Read(Class::Node(Rule::Unit)))?;
+    let mut nodes = Nodes::new(alloc);
     let mut at = 0;
-    while let Some(goal) = goals.pop() {
+    'goals: while let Some(goal) = goals.pop() {
         match make_turn(&mut goals, plan(goal, word_at(source, tokens, at)))? {
-            Turn::Do(_) => {}
+            Turn::Do(shape) => nodes.apply(alloc, shape, at as u32)?,
             Turn::Shift => at += 1,
             Turn::Wrong => return Err(ParseFault::Syntax(position_at(source, tokens, at))),
         }
     }
-    if at < count {
+    if at < tokens.len() {
         return Err(ParseFault::Syntax(position_at(source, tokens, at)));
     }
-    Ok(())
+    finish(alloc, source, tokens, nodes)
+}
+
+/// The tree of all tokens, unless a node is too deep.
+fn finish(alloc: Global, source: &[u8], tokens: &Tokens, nodes: Nodes) -> Result<Raw, ParseFault>
+    requires short { length source.now + 1 < 2 ^ 32 }
+    requires few { length tokens.now < 2 ^ 32 }
+    requires done { IsDone (words_of source.now tokens.now) nodes }
+    ensures found { IfOk result (Parsed (words_of source.now tokens.now)) }
+    ensures fault { IfErr result (λ e. FaultFits source.now tokens.now e) }
+{
+    let count = tokens.len();
+    let Nodes {
+        mut working,
+        stretches,
+        is_whole,
+    } = nodes;
+    if let Some(at) = first_deeper(alloc, stretches.as_slice(), count, DEPTH_LIMIT)? {
+        return Err(ParseFault::Depth(position_at(source, tokens, at)));
+    }
+    match working.pop() {
+        Some(root) if is_whole => Ok(root.closed(count as u32)),
+        _ => Err(ParseFault::NoMemory),
+    }
 }
 
 /// The word of a token, or `Foreign` at the end.
@@ -83,7 +114,7 @@ fn word_at(source: &[u8], tokens: &Tokens, at: usize) -> Word
 /// Where a token stands, or the end of the source.
 fn position_at(source: &[u8], tokens: &Tokens, at: usize) -> Pos
     requires { length source.now + 1 < 2 ^ 32 }
-    ensures { IsPosition source.now (place_of (length source.now) (slice_get tokens.now at)) result }
+    ensures { StandsAt source.now tokens.now at result }
 {
     let place = match tokens.get(at) {
         Some(token) => token.at.start as usize,
