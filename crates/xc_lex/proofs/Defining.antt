@@ -1,13 +1,12 @@
 -- A further macro.
 use Rattle.std.proofs.Common.{◌≡◌, ◌≤◌, ◌<◌, ℕ, zero, suc, ◌+◌, List, [], ◌∷◌, ◌++◌, length, Bool, true, false, if◌then◌else◌, ◌==◌, is_some, refl, sym, ap, ◌∙◌, arith, length-append}
-use Rattle.std.proofs.lemmas.List.{map-append}
 use Rattle.std.specs.Str.{bytes_eq}
 use Rattle.std.proofs.lemmas.Slice.Eq.{bytes_eq-Decides}
 use Rattle.xc_lex.specs.declared.token.Token.{Token}
 use Rattle.xc_lex.specs.declared.macros.Macro.{Macro}
 use Rattle.xc_lex.specs.declared.macros.Made.{Made}
 use Rattle.xc_lex.specs.Macros.{bytes_of, is_defined}
-use Rattle.xc_lex.specs.State.{entry_of, all_of, visible, index_of, AreApart, made_of, IsKept, MadeFits}
+use Rattle.xc_lex.specs.State.{entry_of, all_of, visible, index_of, AreApart, shut, unmade, made_of, IsKept, MadeFits}
 use Rattle.xc_lex.specs.Steps.{IsIdle}
 use Rattle.std.proofs.lemmas.Bool.{eqb-true}
 use Rattle.xc_lex.proofs.Made.{MadeFits-none}
@@ -53,26 +52,23 @@ AreApart-push source (x ∷ ms) m a h =
       | false ↦ λ e h. (index_of-push_absent source ms m (bytes_of source x.name) a.0 (bytes_eq_swap (bytes_of source x.name) (bytes_of source m.name) e), AreApart-push source ms m a.1 (omega arith))
     ] refl h
 
-visible-push : (source : List ℕ) (ms : List Macro) (m : Macro) (opened : List Bool) → length opened ≡ length ms → visible source (ms ++ m ∷ []) (opened ++ false ∷ []) ≡ visible source ms opened ++ entry_of source m ∷ []
-visible-push source [] m [] h = refl
-visible-push source [] m (o ∷ opened) h = absurd (omega arith)
-visible-push source (x ∷ ms) m [] h = absurd (omega arith)
-visible-push source (x ∷ ms) m (true ∷ opened) h = visible-push source ms m opened (omega arith)
-visible-push source (x ∷ ms) m (false ∷ opened) h = ap (λ ns. entry_of source x ∷ ns) (visible-push source ms m opened (omega arith))
+shut-push : (ms : List Macro) (m : Macro) → shut (ms ++ m ∷ []) ≡ shut ms ++ false ∷ []
+shut-push [] m = refl
+shut-push (x ∷ ms) m = ap (λ os. false ∷ os) (shut-push ms m)
 
-made_of-push : (made : List Made) (i : ℕ) → made_of (made ++ record { from = 0; to = 0; macros = 0 } ∷ []) i ≡ made_of made i
+made_of-push : (made : List Made) (i : ℕ) → made_of (made ++ unmade ∷ []) i ≡ made_of made i
 made_of-push [] zero = refl
 made_of-push [] (suc i) = refl
 made_of-push (x ∷ made) zero = refl
 made_of-push (x ∷ made) (suc i) = made_of-push made i
 
 pub IsIdle-push : (source : List ℕ) (ms : List Macro) (m : Macro) (opened : List Bool) (made : List Made) → IsIdle source ms opened made → index_of source ms (bytes_of source m.name) ≡ length ms
-    → IsIdle source (ms ++ m ∷ []) (opened ++ false ∷ []) (made ++ record { from = 0; to = 0; macros = 0 } ∷ [])
+    → IsIdle source (ms ++ m ∷ []) (opened ++ false ∷ []) (made ++ unmade ∷ [])
 IsIdle-push source ms m opened made h new =
     let kept = h.kept in
     let more : length (ms ++ m ∷ []) ≡ length ms + 1 = length-append ms (m ∷ []) in
     let opened_more : length (opened ++ false ∷ []) ≡ length opened + 1 = length-append opened (false ∷ []) in
-    let made_more = length-append made (record { from = 0; to = 0; macros = 0 } ∷ []) in
+    let made_more = length-append made (unmade ∷ []) in
     record {
       kept = record {
         opened_len = omega (arith, more, opened_more, kept.opened_len);
@@ -80,17 +76,17 @@ IsIdle-push source ms m opened made h new =
         apart = AreApart-push source ms m kept.apart new;
         past = λ i. let same = ap (λ m. m.macros) (made_of-push made i) in let past = kept.past i in omega (arith, more, same, past);
       };
-      idle = visible-push source ms m opened kept.opened_len ∙ ap (λ ns. ns ++ entry_of source m ∷ []) h.idle ∙ sym (map-append (entry_of source) ms (m ∷ []));
+      idle = ap (λ os. os ++ false ∷ []) h.idle ∙ sym (shut-push ms m);
     }
 
 below : (a b : ℕ) → a < b → (a == b) ≡ false
 below a b h = elim (a == b) as (λ v. (a == b) ≡ v → v ≡ false) [ true ↦ λ e. let same = eqb-true a b e in absurd (omega (arith, same)) | false ↦ λ e. refl ] refl
 
 -- what was made is forgotten
-pub MadeFits-push : (source : List ℕ) (ms : List Macro) (m : Macro) (opened opened' : List Bool) (made : List Made) (tokens : List Token) → IsKept source ms opened' made → MadeFits source (ms ++ m ∷ []) opened (made ++ record { from = 0; to = 0; macros = 0 } ∷ []) tokens
+pub MadeFits-push : (source : List ℕ) (ms : List Macro) (m : Macro) (opened opened' : List Bool) (made : List Made) (tokens : List Token) → IsKept source ms opened' made → MadeFits source (ms ++ m ∷ []) opened (made ++ unmade ∷ []) tokens
 MadeFits-push source ms m opened opened' made tokens kept =
     let more : length (ms ++ m ∷ []) ≡ length ms + 1 = length-append ms (m ∷ []) in
-    MadeFits-none source (ms ++ m ∷ []) opened _ tokens (λ i _. let same = ap (λ m. m.macros) (made_of-push made i) in let past = kept.past i in below (made_of (made ++ record { from = 0; to = 0; macros = 0 } ∷ []) i).macros (length (ms ++ m ∷ [])) (omega (arith, more, same, past)))
+    MadeFits-none source (ms ++ m ∷ []) opened _ tokens (λ i _. let same = ap (λ m. m.macros) (made_of-push made i) in let past = kept.past i in below (made_of (made ++ unmade ∷ []) i).macros (length (ms ++ m ∷ [])) (omega (arith, more, same, past)))
 
 pub IsIdle-empty : (source : List ℕ) → IsIdle source [] [] []
 IsIdle-empty source = record {

@@ -12,7 +12,7 @@ use Rattle.xc_lex.specs.declared.front.Front.TheVariants.{Whole}
 use Rattle.xc_lex.specs.Front.{front_of}
 use Rattle.xc_lex.specs.Macros.{Macros, bytes_of}
 use Rattle.xc_lex.specs.Lines.{Line, good, bad, words_at, body_at, past_blanks, define_by, define_at, directive_by, directive_at, directive_of, named}
-use Rattle.xc_lex.specs.State.{entry_of, all_of, index_of}
+use Rattle.xc_lex.specs.State.{entry_of, all_of, index_of, unmade}
 use Rattle.xc_lex.specs.Steps.{IsIdle, BodyEnds, BodyStops, DirectiveRead, DirectiveStops}
 use Rattle.xc_lex.proofs.Defining.{is_defined-new, is_defined-known, index_of-le, IsIdle-push, MadeFits-push}
 
@@ -45,7 +45,7 @@ DirectiveRead-at source line ts at ms ms' opened opened' made made' e f g h =
 
 pub define_read : (source : List ℕ) (ms : List Macro) (opened : List Bool) (made : List Made) (hash start at n stop : ℕ) (m : Macro) → DefinesAt source start at n → index_of source ms (slice_range source at (at + n)) ≡ length ms
     → BodyEnds (words_at source (at + n)) m.body.items stop → bytes_of source m.name ≡ slice_range source at (at + n) → IsIdle source ms opened made
-    → DirectiveRead source (define_at source (all_of source ms) hash start) [] stop (ms ++ m ∷ []) (opened ++ false ∷ []) (made ++ record { from = 0; to = 0; macros = 0 } ∷ [])
+    → DirectiveRead source (define_at source (all_of source ms) hash start) [] stop (ms ++ m ∷ []) (opened ++ false ∷ []) (made ++ unmade ∷ [])
 define_read source ms opened made hash start at n stop m h new body name idle = record {
   idle = IsIdle-push source ms m opened made idle (subst (λ (bs : List ℕ). index_of source ms bs ≡ length ms) (sym name) new);
   fits = λ tokens. MadeFits-push source ms m (opened ++ false ∷ []) opened made tokens idle.kept;

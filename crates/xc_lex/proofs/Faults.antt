@@ -1,5 +1,5 @@
 -- Faults of lines.
-use Rattle.std.proofs.Common.{◌≡◌, ◌≤◌, ◌<◌, ◌^◌, ℕ, zero, suc, List, [], ◌∷◌, ◌++◌, length, Bool, true, false, if◌then◌else◌, nat_le, Option, Some, None, refl, sym, ap, ◌∙◌, arith, append_assoc, length-append}
+use Rattle.std.proofs.Common.{◌≡◌, ◌≤◌, ◌<◌, ◌^◌, ℕ, zero, suc, List, [], ◌∷◌, ◌++◌, length, Bool, true, false, if◌then◌else◌, nat_le, Option, Some, None, refl, sym, ap, ◌∙◌, subst, arith, append_assoc, length-append}
 use Rattle.std.proofs.lemmas.List.{append-nil}
 use Rattle.std.proofs.lemmas.Grind.{flat_map-append}
 use Rattle.std.proofs.lemmas.Bool.{le-leb, leb-true}
@@ -14,10 +14,12 @@ use Rattle.xc_lex.specs.declared.stop.Stop.TheVariants.{NoMemory, At}
 use Rattle.xc_lex.specs.declared.front.Front.{Front}
 use Rattle.xc_lex.specs.declared.front.Front.TheVariants.{End, LineEnd, Blank, Whole, Hash, Bad}
 use Rattle.xc_lex.specs.Macros.{Macros, bytes_of, without, replacement, replaced, expanded}
-use Rattle.xc_lex.specs.Lines.{Line, good, bad, words_at, line_by, line_at, hash_line, directive_at}
+use Rattle.xc_lex.specs.Lines.{Line, good, bad, words_at, line_by, line_at, hash_line, directive_at, pragma_at, token_of}
 use Rattle.xc_lex.specs.Source.{fault_of}
 use Rattle.xc_lex.specs.State.{all_of, MadeFits}
-use Rattle.xc_lex.specs.Steps.{IsIdle, is_nil, AllWords, WordsStop, LineRead, LineStops, DirectiveRead, DirectiveStops}
+use Rattle.xc_lex.specs.Steps.{IsIdle, is_nil, AllWords, WordsStop, LineRead, LineStops, DirectiveRead, DirectiveStops, PragmaRead}
+use Rattle.xc_lex.proofs.Made.{MadeFits-append}
+use Rattle.xc_lex.specs.declared.token.TokenKind.TheVariants.{Pragma}
 
 -- by the count of the tokens
 fault_by : Bool → List Token → Line → Option ℕ
@@ -139,6 +141,12 @@ DirectiveStops-line line before ms (At place) h few =
 
 pub DirectiveRead-line : (source : List ℕ) (line : Line) (before : List Token) (at : ℕ) (ms : List Macro) (opened : List Bool) (made : List Made) → DirectiveRead source line [] at ms opened made → length before ≤ 2 ^ 20 → LineRead source line before at ms opened made before
 DirectiveRead-line source line before at ms opened made h few = LineRead-good source line before [] before at ms opened made h.same h.idle (h.fits before) (sym (append-nil before)) few
+
+pub PragmaRead-line : (source : List ℕ) (line : Line) (before after : List Token) (hash start at : ℕ) (ms : List Macro) (opened : List Bool) (made : List Made) → line ≡ pragma_at source (all_of source ms) hash start → IsIdle source ms opened made → MadeFits source ms opened made before → PragmaRead source hash start at before after
+    → LineRead source line before at ms opened made after
+PragmaRead-line source line before after hash start at ms opened made same idle fits p =
+    let more = token_of Pragma hash at ∷ [] in
+    LineRead-good source line before more after at ms opened made (same ∙ p.same (all_of source ms)) idle (subst (λ (ts : List Token). MadeFits source ms opened made ts) (sym p.told) (MadeFits-append source ms opened made before more fits)) p.told p.few
 
 -- the end of a line of words
 pub line_good : (v : Front) (source : List ℕ) (ms : Macros) (found : List Token) (stop : ℕ) → (v ≡ Hash → ⊥) → (v ≡ Bad → ⊥) → line_by v source ms found stop ≡ good ms (expanded source ms found) stop

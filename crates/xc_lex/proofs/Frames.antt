@@ -10,8 +10,8 @@ use Rattle.xc_lex.specs.declared.macros.Macro.{Macro}
 use Rattle.xc_lex.specs.declared.macros.Frame.{Frame}
 use Rattle.xc_lex.specs.declared.macros.Made.{Made}
 use Rattle.xc_lex.specs.Macros.{replacement}
-use Rattle.xc_lex.specs.State.{tokens_of, is_set, Names, moved, MadeFits, IsKept, IsMadeBy, AreSpans, now_replaced, now_cost, pending, frames_cost, visible, unwound, is_made, Entered}
-use Rattle.xc_lex.proofs.Lookups.{open_closed}
+use Rattle.xc_lex.specs.State.{tokens_of, is_set, Names, moved, MadeFits, IsKept, IsMadeBy, AreSpans, now_replaced, now_cost, pending, frames_cost, visible, unwound, is_fixed, Entered}
+use Rattle.xc_lex.proofs.Lookups.{set_back, is_set-set}
 use Rattle.xc_lex.proofs.Expansion.{replaced-kept, two-le-cost, now_replaced_once, now_cost_once}
 use Rattle.xc_lex.proofs.Made.{MadeFits-open, MadeFits-append}
 
@@ -42,7 +42,7 @@ spans_next source at ms opened tokens f fs t h spans =
     let all : tokens ++ flat_map (now_replaced source at ms opened) (drop f.next (tokens_of ms f.number)) ≡ (tokens ++ now_replaced source at ms opened t) ++ rest =
     ap (λ ts. tokens ++ flat_map (now_replaced source at ms opened) ts) h ∙ sym (append_assoc tokens (now_replaced source at ms opened t) rest) in
     let made = subst (λ (ts : List Token). IsMadeBy source ms opened ts f) all spans.0 in
-    (record { at = made.at; before = made.before; size = made.size; same = made.same }, subst (λ (ts : List Token). AreSpans source at ms (set opened f.number false) ts fs) all spans.1)
+    (record { is_open = made.is_open; at = made.at; before = made.before; size = made.size; same = made.same }, subst (λ (ts : List Token). AreSpans source at ms (set opened f.number false) ts fs) all spans.1)
 
 pub spans_done : (source : List ℕ) (at : Span) (ms : List Macro) (opened : List Bool) (tokens : List Token) (f : Frame) (fs : List Frame) → drop f.next (tokens_of ms f.number) ≡ []
     → AreSpans source at ms opened tokens (f ∷ fs) → IsMadeBy source ms opened tokens f × AreSpans source at ms (set opened f.number false) tokens fs
@@ -73,11 +73,11 @@ Entered-keep source at ms opened made frames tokens t kept fits h few =
     Entered-added source at ms opened made frames tokens (moved at t ∷ []) t kept fits (sym (replaced-kept source at (length (visible source ms opened)) (visible source ms opened) t h)) (simp length-append (omega arith))
 
 -- a token stands for those of a macro
-pub Entered-enter : (source : List ℕ) (at : Span) (ms : List Macro) (opened : List Bool) (made : List Made) (frames : List Frame) (tokens : List Token) (t : Token) (i from : ℕ) → IsKept source ms opened made → MadeFits source ms opened made tokens → Names source ms t i → is_set opened i ≡ false → is_made ms made i ≡ false → length tokens ≡ from → length tokens ≤ 2 ^ 20
+pub Entered-enter : (source : List ℕ) (at : Span) (ms : List Macro) (opened : List Bool) (made : List Made) (frames : List Frame) (tokens : List Token) (t : Token) (i from : ℕ) → IsKept source ms opened made → MadeFits source ms opened made tokens → Names source ms t i → is_set opened i ≡ false → is_fixed ms made i ≡ false → length tokens ≡ from → length tokens ≤ 2 ^ 20
     → Entered source at ms opened frames tokens t (set opened i true) made (record { number = i; next = 0; from = from } ∷ frames) tokens
 Entered-enter source at ms opened made frames tokens t i from kept fits names shut off size few =
     let room : i < length opened = omega (arith, names.within, kept.opened_len) in
-    let back = open_closed opened i shut room in
+    let back = set_back opened i false true shut room in
     let same = now_replaced_once source at ms opened t i names shut kept.opened_len in
     let price = now_cost_once source ms opened t i names shut kept.opened_len in
     let left = ap (λ os. frames_cost source ms os frames) back in
@@ -87,7 +87,7 @@ Entered-enter source at ms opened made frames tokens t i from kept fits names sh
       within = λ w. (names.within, w);
       unwinds = ap (λ os. unwound os frames) back;
       spans = λ spans. (
-        record { at = at; before = tokens; size = size; same = refl },
+        record { is_open = is_set-set opened i true room; at = at; before = tokens; size = size; same = refl },
         subst (λ (os : List Bool). AreSpans source at ms os (tokens ++ flat_map (now_replaced source at ms (set opened i true)) (tokens_of ms i)) frames) (sym back) (subst (λ (ts : List Token). AreSpans source at ms opened (tokens ++ ts) frames) same spans),
       );
       told = ap (λ ts. tokens ++ (ts ++ pending source at ms (set (set opened i true) i false) frames)) (sym same) ∙ ap (λ os. tokens ++ (now_replaced source at ms opened t ++ pending source at ms os frames)) back;

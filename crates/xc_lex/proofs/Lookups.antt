@@ -71,10 +71,10 @@ length-visible-open source (m ∷ ms) (false ∷ opened) zero h k f = refl
 length-visible-open source (m ∷ ms) (false ∷ opened) (suc i) h k f = ap suc (length-visible-open source ms opened i (omega arith) (omega arith) f)
 
 -- flags
-pub open_closed : (opened : List Bool) (i : ℕ) → is_set opened i ≡ false → i < length opened → set (set opened i true) i false ≡ opened
-open_closed [] i f k = absurd (omega arith)
-open_closed (o ∷ opened) zero f k = ap (λ p. p ∷ opened) (sym f)
-open_closed (o ∷ opened) (suc i) f k = ap (λ os. o ∷ os) (open_closed opened i f (omega arith))
+pub set_back : (opened : List Bool) (i : ℕ) (b c : Bool) → is_set opened i ≡ b → i < length opened → set (set opened i c) i b ≡ opened
+set_back [] i b c f k = absurd (omega arith)
+set_back (o ∷ opened) zero b c f k = ap (λ p. p ∷ opened) (sym f)
+set_back (o ∷ opened) (suc i) b c f k = ap (λ os. o ∷ os) (set_back opened i b c f (omega arith))
 
 pub is_set-set : (bs : List Bool) (i : ℕ) (b : Bool) → i < length bs → is_set (set bs i b) i ≡ b
 is_set-set [] i b k = absurd (omega arith)

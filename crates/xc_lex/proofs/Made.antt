@@ -1,5 +1,5 @@
 -- The macros whose tokens were made.
-use Rattle.std.proofs.Common.{◌≡◌, ◌≤◌, ◌<◌, ℕ, zero, suc, ◌+◌, ◌-◌, List, [], ◌∷◌, ◌++◌, length, map, take, drop, Bool, true, false, ◌==◌, ◌||◌, inl, inr, refl, sym, ap, ◌∙◌, subst, arith, append_assoc, get_or, length-append, length-drop}
+use Rattle.std.proofs.Common.{◌≡◌, ◌≤◌, ◌<◌, ℕ, zero, suc, ◌+◌, ◌-◌, List, [], ◌∷◌, ◌++◌, length, map, take, drop, Bool, true, false, ◌==◌, ◌||◌, ◌&&◌, ◌⊎◌, inl, inr, refl, sym, ap, ◌∙◌, subst, arith, append_assoc, get_or, length-append, length-drop}
 use Rattle.std.proofs.Math.ListN.{set, length-set}
 use Rattle.std.proofs.Math.Seq.{drop-append_seam}
 use Rattle.std.specs.List.{flat_map, slice_range}
@@ -10,8 +10,8 @@ use Rattle.xc_lex.specs.declared.token.Token.{Token}
 use Rattle.xc_lex.specs.declared.macros.Macro.{Macro}
 use Rattle.xc_lex.specs.declared.macros.Frame.{Frame}
 use Rattle.xc_lex.specs.declared.macros.Made.{Made}
-use Rattle.xc_lex.specs.State.{tokens_of, is_set, is_in, shut, made_of, is_made, Names, IsSettled, AllSettled, AreOf, moved, now_replaced, visible, IsPlaced, MadeFits, IsMadeBy}
-use Rattle.xc_lex.proofs.Lookups.{is_set-set}
+use Rattle.xc_lex.specs.State.{tokens_of, is_set, is_in, shut, made_of, is_made, is_fixed, Names, IsSettled, AllSettled, AreOf, moved, now_replaced, visible, IsPlaced, MadeFits, IsMadeBy}
+use Rattle.xc_lex.proofs.Lookups.{is_set-set, set_back}
 use Rattle.xc_lex.proofs.Expansion.{different, closed-closed, closed-opened, replaced-same, body-same, flat_map-moved, replaced-moved, now_replaced_once}
 
 is_set-shut : (ms : List Macro) (i : ℕ) → is_set (shut ms) i ≡ false
@@ -66,7 +66,7 @@ MadeFits-append source ms opened made tokens more h =
       ordered = h.ordered;
       flagged = h.flagged;
       closed = h.closed;
-      placed = λ i member. let p = h.placed i member in record {
+      placed = λ i below on. let p = h.placed i below on in record {
         ordered = p.ordered;
         within = omega (arith, p.within, size);
         same = λ at. ap (map (moved at)) (range_append tokens more (made_of made i).from (made_of made i).to p.ordered p.within) ∙ p.same at;
@@ -83,8 +83,8 @@ MadeFits-close source ms opened made tokens n within h = record {
   placed = h.placed;
 }
 
--- a macro whose tokens were not made is opened
-pub MadeFits-open : (source : List ℕ) (ms : List Macro) (opened : List Bool) (made : List Made) (tokens : List Token) (n : ℕ) → n < length ms → is_made ms made n ≡ false → MadeFits source ms opened made tokens → MadeFits source ms (set opened n true) made tokens
+-- a macro that is not the same anywhere is opened
+pub MadeFits-open : (source : List ℕ) (ms : List Macro) (opened : List Bool) (made : List Made) (tokens : List Token) (n : ℕ) → n < length ms → is_fixed ms made n ≡ false → MadeFits source ms opened made tokens → MadeFits source ms (set opened n true) made tokens
 MadeFits-open source ms opened made tokens n within off h = record {
   known = h.known;
   ordered = h.ordered;
@@ -93,18 +93,18 @@ MadeFits-open source ms opened made tokens n within off h = record {
   placed = h.placed;
 }
 
-settled_of : (source : List ℕ) (ms : List Macro) (made : List Made) (known : List ℕ) → ((i : ℕ) → i < length ms → is_made ms made i ≡ is_in i known) → (ts : List Token) → AllSettled source ms made ts → AreOf source ms known ts
+settled_of : (source : List ℕ) (ms : List Macro) (made : List Made) (known : List ℕ) → ((i : ℕ) → i < length ms → is_fixed ms made i ≡ is_in i known) → (ts : List Token) → AllSettled source ms made ts → AreOf source ms known ts
 unfolding IsSettled
 settled_of source ms made known flagged [] h = tt
 settled_of source ms made known flagged (t ∷ ts) (inl none, h) = (inl none, settled_of source ms made known flagged ts h)
 settled_of source ms made known flagged (t ∷ ts) (inr one, h) = (inr (one.0, one.1, sym (flagged one.0 one.1.within) ∙ one.2), settled_of source ms made known flagged ts h)
 
--- what a macro stands for is where it was made
-placed_at : (source : List ℕ) (ms : List Macro) (opened : List Bool) (made : List Made) (tokens : List Token) (f : Frame) → length opened ≡ length ms → is_made ms made f.number ≡ false → f.number < length ms → AllSettled source ms made (tokens_of ms f.number)
-    → MadeFits source ms opened made tokens → IsMadeBy source ms opened tokens f → IsPlaced source ms tokens f.number (record { from = f.from; to = length tokens; macros = length ms })
-placed_at source ms opened made tokens f level off inside settled h by =
+-- what a macro that is left stands for is what was made, if it would be the same where it alone is opened
+placed_by : (source : List ℕ) (ms : List Macro) (opened : List Bool) (tokens : List Token) (f : Frame) (anywhere : Bool) → IsMadeBy source ms opened tokens f
+    → ((at : Span) → flat_map (now_replaced source at ms opened) (tokens_of ms f.number) ≡ flat_map (now_replaced source at ms (set (shut ms) f.number true)) (tokens_of ms f.number))
+    → IsPlaced source ms tokens f.number (record { from = f.from; to = length tokens; macros = length ms; anywhere = anywhere })
+placed_by source ms opened tokens f anywhere by alone =
     let body = tokens_of ms f.number in
-    let out = sym (h.flagged f.number inside) ∙ off in
     let size = ap length by.same in
     let parts = length-append by.before (flat_map (now_replaced source by.at ms opened) body) in
     let start : drop f.from tokens ≡ flat_map (now_replaced source by.at ms opened) body =
@@ -115,44 +115,91 @@ placed_at source ms opened made tokens f level off inside settled h by =
       same = λ at.
           ap (map (moved at)) (take_rest tokens f.from ∙ start)
           ∙ flat_map-moved at (now_replaced source by.at ms opened) (now_replaced source at ms opened) body (λ u. replaced-moved source by.at at (length (visible source ms opened)) (visible source ms opened) u)
-          ∙ body-same source at ms h.known opened (set (shut ms) f.number true) body h.ordered h.closed (closed-opened f.number h.known (shut ms) out (λ j _. is_set-shut ms j)) level (simp length-set (length-shut ms)) (settled_of source ms made h.known h.flagged body settled);
+          ∙ alone at;
     }
 
--- a macro's tokens were made
-pub MadeFits-mark : (source : List ℕ) (ms : List Macro) (opened : List Bool) (made : List Made) (tokens : List Token) (f : Frame) → length opened ≡ length ms → f.number < length made → f.number < length ms → is_made ms made f.number ≡ false → AllSettled source ms made (tokens_of ms f.number)
-    → MadeFits source ms opened made tokens → IsMadeBy source ms opened tokens f → MadeFits source ms (set opened f.number false) (set made f.number (record { from = f.from; to = length tokens; macros = length ms })) tokens
+-- a further range
+placed-set : (source : List ℕ) (ms : List Macro) (made : List Made) (tokens : List Token) (n : ℕ) (one : Made) → n < length made → ((i : ℕ) → i < length ms → is_made ms made i ≡ true → IsPlaced source ms tokens i (made_of made i)) → IsPlaced source ms tokens n one
+    → (i : ℕ) → i < length ms → is_made ms (set made n one) i ≡ true → IsPlaced source ms tokens i (made_of (set made n one) i)
+placed-set source ms made tokens n one within placed this i =
+    elim (n == i) as (λ v. (n == i) ≡ v → i < length ms → is_made ms (set made n one) i ≡ true → IsPlaced source ms tokens i (made_of (set made n one) i)) [
+      | true ↦ λ e below on. subst (λ (k : ℕ). IsPlaced source ms tokens k (made_of (set made n one) k)) (eqb-true n i e) (subst (λ (m : Made). IsPlaced source ms tokens n m) (sym (made_of-set made n one within)) this)
+      | false ↦ λ e below on.
+          let old = made_of-set_other made n i one (λ same. different n i e (sym same)) in
+          subst (λ (m : Made). IsPlaced source ms tokens i m) (sym old) (placed i below (sym (ap (λ m. m.macros == length ms) old) ∙ on))
+    ] refl
+
+-- a macro's tokens were made, and are the same anywhere
+MadeFits-mark : (source : List ℕ) (ms : List Macro) (opened : List Bool) (made : List Made) (tokens : List Token) (f : Frame) → length opened ≡ length ms → f.number < length made → f.number < length ms → is_fixed ms made f.number ≡ false → AllSettled source ms made (tokens_of ms f.number)
+    → MadeFits source ms opened made tokens → IsMadeBy source ms opened tokens f → MadeFits source ms (set opened f.number false) (set made f.number (record { from = f.from; to = length tokens; macros = length ms; anywhere = true })) tokens
 MadeFits-mark source ms opened made tokens f level within inside off settled h by =
     let n = f.number in
-    let one : Made = record { from = f.from; to = length tokens; macros = length ms } in
+    let one : Made = record { from = f.from; to = length tokens; macros = length ms; anywhere = true } in
     let room : n < length opened = omega (arith, level, inside) in
-    let new = made_of-set made n one within in
-    let old = λ (i : ℕ) (e : (n == i) ≡ false). made_of-set_other made n i one (λ same. different n i e (sym same)) in
+    let out = sym (h.flagged n inside) ∙ off in
+    let names = settled_of source ms made h.known h.flagged (tokens_of ms n) settled in
+    let this = placed_by source ms opened tokens f true by (λ at. body-same source at ms h.known opened (set (shut ms) n true) (tokens_of ms n) h.ordered h.closed (closed-opened n h.known (shut ms) out (λ j _. is_set-shut ms j)) level (simp length-set (length-shut ms)) names) in
     record {
       known = n ∷ h.known;
-      ordered = (sym (h.flagged n inside) ∙ off, settled_of source ms made h.known h.flagged (tokens_of ms n) settled, h.ordered);
-      flagged = λ i below. elim (n == i) as (λ v. (n == i) ≡ v → is_made ms (set made n one) i ≡ (v || is_in i h.known)) [
-        | true ↦ λ e. subst (λ (k : ℕ). is_made ms (set made n one) k ≡ true) (eqb-true n i e) (ap (λ m. m.macros == length ms) new ∙ eq-eqb (length ms) (length ms) refl)
-        | false ↦ λ e. ap (λ m. m.macros == length ms) (old i e) ∙ h.flagged i below
+      ordered = (out, names, h.ordered);
+      flagged = λ i below. elim (n == i) as (λ v. (n == i) ≡ v → is_fixed ms (set made n one) i ≡ (v || is_in i h.known)) [
+        | true ↦ λ e. subst (λ (k : ℕ). is_fixed ms (set made n one) k ≡ true) (eqb-true n i e) (ap (λ m. m.macros == length ms && m.anywhere) (made_of-set made n one within) ∙ ap (λ b. b && true) (eq-eqb (length ms) (length ms) refl))
+        | false ↦ λ e. ap (λ m. m.macros == length ms && m.anywhere) (made_of-set_other made n i one (λ same. different n i e (sym same))) ∙ h.flagged i below
       ] refl;
       closed = λ i. elim (n == i) as (λ v. (n == i) ≡ v → (v || is_in i h.known) ≡ true → is_set (set opened n false) i ≡ false) [
         | true ↦ λ e m. subst (λ (k : ℕ). is_set (set opened n false) k ≡ false) (eqb-true n i e) (is_set-set opened n false room)
         | false ↦ λ e m. closed-closed n h.known opened room h.closed i m
       ] refl;
-      placed = λ i. elim (n == i) as (λ v. (n == i) ≡ v → (v || is_in i h.known) ≡ true → IsPlaced source ms tokens i (made_of (set made n one) i)) [
-        | true ↦ λ e m. subst (λ (k : ℕ). IsPlaced source ms tokens k (made_of (set made n one) k)) (eqb-true n i e) (subst (λ (m : Made). IsPlaced source ms tokens n m) (sym new) (placed_at source ms opened made tokens f level off inside settled h by))
-        | false ↦ λ e m. subst (λ (m : Made). IsPlaced source ms tokens i m) (sym (old i e)) (h.placed i m)
-      ] refl;
+      placed = placed-set source ms made tokens n one within h.placed this;
     }
+
+-- or are what it stands for in the text itself
+MadeFits-note : (source : List ℕ) (ms : List Macro) (opened : List Bool) (made : List Made) (tokens : List Token) (f : Frame) → length opened ≡ length ms → f.number < length made → f.number < length ms → is_fixed ms made f.number ≡ false → set opened f.number false ≡ shut ms
+    → MadeFits source ms opened made tokens → IsMadeBy source ms opened tokens f → MadeFits source ms (set opened f.number false) (set made f.number (record { from = f.from; to = length tokens; macros = length ms; anywhere = false })) tokens
+MadeFits-note source ms opened made tokens f level within inside off last h by =
+    let n = f.number in
+    let one : Made = record { from = f.from; to = length tokens; macros = length ms; anywhere = false } in
+    let room : n < length opened = omega (arith, level, inside) in
+    let alone : opened ≡ set (shut ms) n true = sym (set_back opened n true false by.is_open room) ∙ ap (λ os. set os n true) last in
+    let this = placed_by source ms opened tokens f false by (λ at. ap (λ os. flat_map (now_replaced source at ms os) (tokens_of ms n)) alone) in
+    record {
+      known = h.known;
+      ordered = h.ordered;
+      flagged = λ i below. elim (n == i) as (λ v. (n == i) ≡ v → is_fixed ms (set made n one) i ≡ is_in i h.known) [
+        | true ↦ λ e. subst (λ (k : ℕ). is_fixed ms (set made n one) k ≡ is_in k h.known) (eqb-true n i e) (ap (λ m. m.macros == length ms && m.anywhere) (made_of-set made n one within) ∙ ap (λ b. b && false) (eq-eqb (length ms) (length ms) refl) ∙ sym off ∙ h.flagged n inside)
+        | false ↦ λ e. ap (λ m. m.macros == length ms && m.anywhere) (made_of-set_other made n i one (λ same. different n i e (sym same))) ∙ h.flagged i below
+      ] refl;
+      closed = closed-closed n h.known opened room h.closed;
+      placed = placed-set source ms made tokens n one within h.placed this;
+    }
+
+-- a macro that is left, whose tokens were not made before
+pub MadeFits-left : (source : List ℕ) (ms : List Macro) (opened : List Bool) (made : List Made) (tokens : List Token) (f : Frame) (anywhere in_text : Bool) → length opened ≡ length ms → f.number < length made → f.number < length ms → is_made ms made f.number ≡ false
+    → (anywhere ≡ true → AllSettled source ms made (tokens_of ms f.number)) → (in_text ≡ true → set opened f.number false ≡ shut ms) → (anywhere ≡ true) ⊎ ((anywhere ≡ false) × (in_text ≡ true))
+    → MadeFits source ms opened made tokens → IsMadeBy source ms opened tokens f → MadeFits source ms (set opened f.number false) (set made f.number (record { from = f.from; to = length tokens; macros = length ms; anywhere = anywhere })) tokens
+MadeFits-left source ms opened made tokens f anywhere in_text level within inside off settled last (inl same) h by =
+    subst (λ (b : Bool). MadeFits source ms (set opened f.number false) (set made f.number (record { from = f.from; to = length tokens; macros = length ms; anywhere = b })) tokens) (sym same)
+    (MadeFits-mark source ms opened made tokens f level within inside (ap (λ b. b && (made_of made f.number).anywhere) off) (settled same) h by)
+MadeFits-left source ms opened made tokens f anywhere in_text level within inside off settled last (inr both) h by =
+    subst (λ (b : Bool). MadeFits source ms (set opened f.number false) (set made f.number (record { from = f.from; to = length tokens; macros = length ms; anywhere = b })) tokens) (sym both.0)
+    (MadeFits-note source ms opened made tokens f level within inside (ap (λ b. b && (made_of made f.number).anywhere) off) (last both.1) h by)
 
 -- none were
 pub MadeFits-none : (source : List ℕ) (ms : List Macro) (opened : List Bool) (made : List Made) (tokens : List Token) → ((i : ℕ) → i < length ms → is_made ms made i ≡ false) → MadeFits source ms opened made tokens
-MadeFits-none source ms opened made tokens none = record { known = []; ordered = tt; flagged = none; closed = λ i h. absurd (cc); placed = λ i h. absurd (cc) }
+MadeFits-none source ms opened made tokens none = record {
+  known = [];
+  ordered = tt;
+  flagged = λ i below. ap (λ b. b && (made_of made i).anywhere) (none i below);
+  closed = λ i h. absurd (cc);
+  placed = λ i below on. let off = none i below in absurd (cc);
+}
 
 -- what was made, at another place
-pub made_again : (source : List ℕ) (at : Span) (ms : List Macro) (opened : List Bool) (made : List Made) (tokens : List Token) (t : Token) (i : ℕ) → length opened ≡ length ms → MadeFits source ms opened made tokens → Names source ms t i → is_made ms made i ≡ true
+pub made_again : (source : List ℕ) (at : Span) (ms : List Macro) (opened : List Bool) (made : List Made) (tokens : List Token) (t : Token) (i : ℕ) → length opened ≡ length ms → MadeFits source ms opened made tokens → Names source ms t i → is_made ms made i ≡ true → (is_fixed ms made i ≡ true) ⊎ (opened ≡ shut ms)
     → map (moved at) (slice_range tokens (made_of made i).from (made_of made i).to) ≡ now_replaced source at ms opened t
-made_again source at ms opened made tokens t i level h names on =
-    let member = sym (h.flagged i names.within) ∙ on in
-    (h.placed i member).same at
-    ∙ sym (now_replaced_once source at ms (shut ms) t i names (is_set-shut ms i) (length-shut ms))
-    ∙ replaced-same source at ms h.known (shut ms) opened t i h.ordered (λ j _. is_set-shut ms j) h.closed (length-shut ms) level names member
+made_again source at ms opened made tokens t i level h names on why =
+    (h.placed i names.within on).same at ∙ sym (now_replaced_once source at ms (shut ms) t i names (is_set-shut ms i) (length-shut ms)) ∙ here why
+  where
+    here : (is_fixed ms made i ≡ true) ⊎ (opened ≡ shut ms) → now_replaced source at ms (shut ms) t ≡ now_replaced source at ms opened t
+    here (inl fixed) = replaced-same source at ms h.known (shut ms) opened t i h.ordered (λ j _. is_set-shut ms j) h.closed (length-shut ms) level names (sym (h.flagged i names.within) ∙ fixed)
+    here (inr none) = ap (λ os. now_replaced source at ms os t) (sym none)

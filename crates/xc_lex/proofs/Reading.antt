@@ -13,7 +13,7 @@ use Rattle.xc_lex.specs.declared.front.Front.TheVariants.{End, LineEnd, Blank, W
 use Rattle.xc_lex.specs.Front.{front_of}
 use Rattle.xc_lex.specs.Macros.{replaced, expanded}
 use Rattle.xc_lex.specs.Lines.{Words, token_of, words_by, words_from}
-use Rattle.xc_lex.specs.State.{all_of, visible, MadeFits, now_replaced, Replaced, Passes}
+use Rattle.xc_lex.specs.State.{entry_of, all_of, visible, shut, MadeFits, now_replaced, Replaced, Passes}
 use Rattle.xc_lex.specs.Steps.{IsIdle, is_nil, SoFar, AllWords, TooMany, WordsStop}
 use Rattle.xc_lex.proofs.Scanning.{words_blank_at, words_whole_at, words_stop}
 
@@ -92,12 +92,16 @@ pub stops : (source : List ℕ) (ms : List Macro) (start : ℕ) (before : List T
 stops source ms start before NoMemory h = tt
 stops source ms start before (At place) h = h
 
+visible-shut : (source : List ℕ) (ms : List Macro) → visible source ms (shut ms) ≡ all_of source ms
+visible-shut source [] = refl
+visible-shut source (m ∷ ms) = ap (λ ns. entry_of source m ∷ ns) (visible-shut source ms)
+
 -- of an idle state
 pub now_is_all : (source : List ℕ) (ms : List Macro) (opened : List Bool) (made : List Made) (t : Token) → IsIdle source ms opened made → now_replaced source t.at ms opened t ≡ replaced source t.at (length (all_of source ms)) (all_of source ms) t
-now_is_all source ms opened made t idle = ap (λ all. replaced source t.at (length all) all t) idle.idle
+now_is_all source ms opened made t idle = ap (λ all. replaced source t.at (length all) all t) (ap (visible source ms) idle.idle ∙ visible-shut source ms)
 
 pub IsIdle-replaced : (source : List ℕ) (ms : List Macro) (opened opened' : List Bool) (made made' : List Made) (tokens tokens' : List Token) (t : Token) → IsIdle source ms opened made → Replaced source ms opened tokens t opened' made' tokens' → IsIdle source ms opened' made'
-IsIdle-replaced source ms opened opened' made made' tokens tokens' t idle r = record { kept = r.kept; idle = ap (λ os. visible source ms os) r.unwinds ∙ idle.idle }
+IsIdle-replaced source ms opened opened' made made' tokens tokens' t idle r = record { kept = r.kept; idle = r.unwinds ∙ idle.idle }
 
 -- a word was replaced
 pub SoFar-replaced : (source : List ℕ) (ms ms' : List Macro) (opened opened' : List Bool) (made made' : List Made) (start : ℕ) (before : List Token) (at : ℕ) (fresh : Bool) (tokens tokens' : List Token) (kind : TokenKind) (n : ℕ) (t : Token)

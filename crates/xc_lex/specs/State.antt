@@ -1,5 +1,5 @@
 -- The macros as the code keeps them, and what is still to be replaced.
-use Rattle.std.specs.Prelude.{◌≡◌, ◌≤◌, ◌<◌, ℕ, zero, suc, ◌+◌, ◌^◌, List, [], ◌∷◌, ◌++◌, length, map, sum_by, Bool, true, false, ◌==◌, ◌⊎◌, if◌then◌else◌, Option, None, IsSome, slice_index_or, slice_set, slice_range, drop}
+use Rattle.std.specs.Prelude.{◌≡◌, ◌≤◌, ◌<◌, ℕ, zero, suc, ◌+◌, ◌^◌, List, [], ◌∷◌, ◌++◌, length, map, sum_by, Bool, true, false, ◌==◌, ◌&&◌, ◌⊎◌, if◌then◌else◌, Option, None, IsSome, slice_index_or, slice_set, slice_range, drop}
 use Rattle.std.specs.List.{flat_map, list_any}
 use Rattle.std.specs.Option.{option_map_or}
 use Rattle.std.specs.Str.{bytes_eq}
@@ -69,17 +69,25 @@ abbrev pub shut : List Macro → List Bool
 shut [] = []
 shut (m ∷ ms) = false ∷ shut ms
 
+-- what a macro stands for was never made
+abbrev pub unmade : Made
+unmade = record { from = 0; to = 0; macros = 0; anywhere = false }
+
 -- where the tokens stand that a macro stands for, if they were made
 abbrev pub made_of : List Made → ℕ → Made
-made_of made i = slice_index_or made i (record { from = 0; to = 0; macros = 0 })
+made_of made i = slice_index_or made i unmade
 
 -- they were, behind the last `define`
 abbrev pub is_made : List Macro → List Made → ℕ → Bool
 is_made ms made i = (made_of made i).macros == length ms
 
--- a token is the name of no macro, or of one whose tokens were made
+-- and they are the same wherever the macro is met
+abbrev pub is_fixed : List Macro → List Made → ℕ → Bool
+is_fixed ms made i = is_made ms made i && (made_of made i).anywhere
+
+-- a token is the name of no macro, or of one that stands for the same anywhere
 unfoldable pub IsSettled : List ℕ → List Macro → List Made → Token → Type 0
-IsSettled source ms made t = NamesNone source ms t ⊎ ((i : ℕ) × Names source ms t i × (is_made ms made i ≡ true))
+IsSettled source ms made t = NamesNone source ms t ⊎ ((i : ℕ) × Names source ms t i × (is_fixed ms made i ≡ true))
 
 abbrev pub AllSettled : List ℕ → List Macro → List Made → List Token → Type 0
 AllSettled source ms made [] = Unit {0}
@@ -109,13 +117,13 @@ pub record IsPlaced (source : List ℕ) (ms : List Macro) (tokens : List Token) 
   pub within : m.to ≤ length tokens
   pub same : (at : Span) → map (moved at) (slice_range tokens m.from m.to) ≡ flat_map (now_replaced source at ms (slice_set (shut ms) i true)) (tokens_of ms i)
 
--- the macros whose tokens were made: none of them is opened, and what each stands for is where it is said to be
+-- what each macro whose tokens were made stands for is where it is said to be; of those that are the same anywhere none is opened
 pub record MadeFits (source : List ℕ) (ms : List Macro) (opened : List Bool) (made : List Made) (tokens : List Token) : Type 0 where
   pub known : List ℕ
   pub ordered : AreOrdered source ms known
-  pub flagged : (i : ℕ) → i < length ms → is_made ms made i ≡ is_in i known
+  pub flagged : (i : ℕ) → i < length ms → is_fixed ms made i ≡ is_in i known
   pub closed : (i : ℕ) → is_in i known ≡ true → is_set opened i ≡ false
-  pub placed : (i : ℕ) → is_in i known ≡ true → IsPlaced source ms tokens i (made_of made i)
+  pub placed : (i : ℕ) → i < length ms → is_made ms made i ≡ true → IsPlaced source ms tokens i (made_of made i)
 
 -- the macros as they are kept
 pub record IsKept (source : List ℕ) (ms : List Macro) (opened : List Bool) (made : List Made) : Type 0 where
@@ -162,16 +170,17 @@ frames_cost source ms opened (f ∷ fs) =
 -- the token is kept as it is, or stands for tokens that were made, or for those of a macro that is not opened
 abbrev pub TurnFits : List ℕ → List Macro → List Bool → List Made → Token → Turn → Type 0
 TurnFits source ms opened made t Keep = replacement source (visible source ms opened) t ≡ None
-TurnFits source ms opened made t (Copy i) = Names source ms t i × (is_made ms made i ≡ true)
-TurnFits source ms opened made t (Enter i) = Names source ms t i × (is_set opened i ≡ false) × (is_made ms made i ≡ false)
+TurnFits source ms opened made t (Copy i) = Names source ms t i × (is_made ms made i ≡ true) × ((is_fixed ms made i ≡ true) ⊎ (opened ≡ shut ms))
+TurnFits source ms opened made t (Enter i) = Names source ms t i × (is_set opened i ≡ false) × (is_fixed ms made i ≡ false)
 
 -- what is added to the tokens passes the limit, with a token that stands at this place
 abbrev pub Passes : Span → List Token → List Token → Stop → Type 0
 Passes at ts more NoMemory = Unit {0}
 Passes at ts more (At place) = (place ≡ at.start) × (length ts ≤ 2 ^ 20) × (2 ^ 20 < length (ts ++ more))
 
--- what a macro stands for is what was made behind as many tokens
+-- what a macro that is opened stands for is what was made behind as many tokens
 pub record IsMadeBy (source : List ℕ) (ms : List Macro) (opened : List Bool) (tokens : List Token) (f : Frame) : Type 0 where
+  pub is_open : is_set opened f.number ≡ true
   pub at : Span
   pub before : List Token
   pub size : length before ≡ f.from

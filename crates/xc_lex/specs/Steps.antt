@@ -13,7 +13,7 @@ use Rattle.xc_lex.specs.Front.{front_of, rest_front_of}
 use Rattle.xc_lex.specs.Macros.{Macros, replaced, expanded}
 use Rattle.xc_lex.specs.Lines.{Words, words_at, words_from, Line, good, bad, rest_line, body_line, pragma_at, token_of}
 use Rattle.xc_lex.specs.Source.{fault_of}
-use Rattle.xc_lex.specs.State.{all_of, visible, IsKept, MadeFits, Passes}
+use Rattle.xc_lex.specs.State.{all_of, shut, IsKept, MadeFits, Passes}
 
 abbrev pub front_in : Part → List ℕ → Front
 front_in Tokens = front_of
@@ -22,7 +22,7 @@ front_in Rest = rest_front_of
 -- no macro is opened
 pub record IsIdle (source : List ℕ) (ms : List Macro) (opened : List Bool) (made : List Made) : Type 0 where
   pub kept : IsKept source ms opened made
-  pub idle : visible source ms opened ≡ all_of source ms
+  pub idle : opened ≡ shut ms
 
 abbrev pub is_nil : List Token → Bool
 is_nil [] = true

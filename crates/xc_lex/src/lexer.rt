@@ -75,11 +75,12 @@ pub enum LexFault {
 
 /// The tokens of a text, with macros replaced. It takes time in proportion to the text and the
 /// tokens, with two exceptions: behind each `define` line the macros that are used are expanded anew
-/// once, and one whose expansion comes back to a macro that is being replaced, at each use.
+/// once, and one whose expansion comes back to a macro that is being replaced, at each use in another.
 pub fn lex(alloc: Global, source: &[u8]) -> Result<Tokens, LexFault>
     requires { length source.now ≤ 2 ^ 20 }
     ensures tokens { IfOk result (λ tokens. AreTokens source.now tokens) }
     ensures only_tokens { IfOk result (λ tokens. AreOnly source.now tokens) }
+    ensures few { IfOk result (λ tokens. length tokens ≤ 2 ^ 20) }
     ensures spelled { IfOk result (λ tokens. All (IsSpelled source.now) tokens) }
     ensures fault { IfErr result (λ e. FaultFits source.now e) }
     ensures only_fault { IfErr result (λ e. IsOnlyFault source.now e) }

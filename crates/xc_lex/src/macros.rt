@@ -3,7 +3,7 @@
 ghost use Rattle.std.specs.Prelude.{◌≡◌, ◌↔◌, ◌≤◌, ◌<◌, ◌^◌, ◌+◌, ◌++◌, ◌∷◌, [], length, map, ℕ, List, reverse, IfOk, IfErr, OnOk, IsTrue, MatchOption, slice_set, slice_range, false, drop};
 ghost use Rattle.xc_lex.specs.Macros.{bytes_of, replaced};
 ghost use Rattle.xc_lex.specs.Numbering.{number_in};
-ghost use Rattle.xc_lex.specs.State.{all_of, visible, index_of, AreApart, AreNumbered, tokens_of, is_set, is_in, made_of, is_made, NamesNone, Names, IsSettled, AllSettled, NextOf, Entered, Replaced, MadeFits, IsKept, IsMadeBy, AreSpans, moved, now_replaced, pending, unwound, AreWithin, now_cost, frames_cost, TurnFits, Passes};
+ghost use Rattle.xc_lex.specs.State.{all_of, visible, index_of, AreApart, AreNumbered, tokens_of, is_set, is_in, shut, unmade, made_of, is_made, is_fixed, NamesNone, Names, IsSettled, AllSettled, NextOf, Entered, Replaced, MadeFits, IsKept, IsMadeBy, AreSpans, moved, now_replaced, pending, unwound, AreWithin, now_cost, frames_cost, TurnFits, Passes};
 
 use crate::numbers::Numbers;
 use crate::stop::Stop;
@@ -22,12 +22,13 @@ pub struct Macro {
 }
 
 /// A range of a text's tokens: what a macro stands for, as long as there are no more macros than
-/// there were (0: it is not known).
+/// there were (0: it is not known). It is so where no macro is being replaced, and perhaps anywhere.
 #[derive(Clone, Copy)]
 pub struct Made {
     pub from: usize,
     pub to: usize,
     pub macros: usize,
+    pub anywhere: bool,
 }
 
 /// The macros so far, which of them are being replaced, and where what they stand for was made.
@@ -144,7 +145,7 @@ impl Macros {
         ensures entries { IfOk result (λ _. self.new.entries.items ≡ self.old.entries.items ++ record { name = name; body = body } ∷ []) }
         ensures numbered { IfOk result (λ _. AreNumbered source.now self.new.entries.items (number_in self.new.numbers)) }
         ensures opened { IfOk result (λ _. self.new.opened.items ≡ self.old.opened.items ++ false ∷ []) }
-        ensures made { IfOk result (λ _. self.new.made.items ≡ self.old.made.items ++ record { from = 0; to = 0; macros = 0 } ∷ []) }
+        ensures made { IfOk result (λ _. self.new.made.items ≡ self.old.made.items ++ unmade ∷ []) }
         ensures err { IfErr result (λ e. e ≡ Stop.NoMemory) }
     {
         self.numbers
@@ -155,6 +156,7 @@ impl Macros {
             from: 0,
             to: 0,
             macros: 0,
+            anywhere: false,
         })?;
         Ok(())
     }
@@ -192,10 +194,19 @@ impl Macros {
         self.made_of(number).macros == self.entries.len()
     }
 
-    /// What becomes of a token.
-    fn turn(&self, source: &[u8], word: Token) -> Turn
+    /// Whether it was, and is the same wherever the macro is met.
+    fn is_fixed(&self, number: usize) -> bool
+        requires { number < length self.now.made.items }
+        ensures { result ≡ is_fixed self.now.entries.items self.now.made.items number }
+    {
+        self.is_made(number) && self.made_of(number).anywhere
+    }
+
+    /// What becomes of a token, of a macro or of the text itself.
+    fn turn(&self, source: &[u8], word: Token, in_text: bool) -> Turn
         requires kept { IsKept source.now self.now.entries.items self.now.opened.items self.now.made.items }
         requires numbered { AreNumbered source.now self.now.entries.items (number_in self.now.numbers) }
+        requires shut { IsTrue in_text → self.now.opened.items ≡ shut self.now.entries.items }
         ensures { TurnFits source.now self.now.entries.items self.now.opened.items self.now.made.items word result }
     {
         match self.number_of(source, word) {
@@ -203,7 +214,7 @@ impl Macros {
             Some(i) => {
                 if self.opened[i] {
                     Turn::Keep
-                } else if self.is_made(i) {
+                } else if self.is_fixed(i) || (in_text && self.is_made(i)) {
                     Turn::Copy(i)
                 } else {
                     Turn::Enter(i)
@@ -212,7 +223,7 @@ impl Macros {
         }
     }
 
-    /// Whether a token is the name of no macro, or of one whose tokens were made.
+    /// Whether a token is the name of no macro, or of one that stands for the same anywhere.
     #[tactic(auto, unfolding(crate::specs::State::IsSettled))]
     fn is_settled(&self, source: &[u8], word: Token) -> bool
         requires kept { IsKept source.now self.now.entries.items self.now.opened.items self.now.made.items }
@@ -221,7 +232,7 @@ impl Macros {
     {
         match self.number_of(source, word) {
             None => true,
-            Some(i) => self.is_made(i),
+            Some(i) => self.is_fixed(i),
         }
     }
 
@@ -253,12 +264,13 @@ impl Macros {
         requires numbered { AreNumbered source.now self.old.entries.items (number_in self.old.numbers) }
         requires fits { MadeFits source.now self.old.entries.items self.old.opened.items self.old.made.items tokens.old.items }
         requires few { length tokens.old.items ≤ 2 ^ 20 }
+        requires shut { stack.old.items ≡ [] → self.old.opened.items ≡ shut self.old.entries.items }
         ensures entries { self.new.entries.items ≡ self.old.entries.items }
         ensures numbers { self.new.numbers ≡ self.old.numbers }
         ensures ok { IfOk result (λ _. Entered source.now at self.old.entries.items self.old.opened.items (reverse stack.old.items) tokens.old.items word self.new.opened.items self.new.made.items (reverse stack.new.items) tokens.new.items) }
         ensures err { IfErr result (λ e. Passes at tokens.old.items (now_replaced source.now at self.old.entries.items self.old.opened.items word) e) }
     {
-        match self.turn(source, word) {
+        match self.turn(source, word, stack.is_empty()) {
             Turn::Keep => {
                 if tokens.len() >= LIMIT {
                     return Err(Stop::At(at.start as usize));
@@ -280,13 +292,14 @@ impl Macros {
     }
 
     /// Ends the replacement of a macro, and notes where what it stands for was made, if that is so
-    /// wherever it is met.
-    fn leave(&mut self, source: &[u8], frame: Frame, tokens: &[Token])
+    /// wherever it is met, or if it stands in the text itself.
+    fn leave(&mut self, source: &[u8], frame: Frame, in_text: bool, tokens: &[Token])
         requires kept { IsKept source.now self.old.entries.items self.old.opened.items self.old.made.items }
         requires numbered { AreNumbered source.now self.old.entries.items (number_in self.old.numbers) }
         requires fits { MadeFits source.now self.old.entries.items self.old.opened.items self.old.made.items tokens.now }
         requires within { frame.number < length self.old.entries.items }
         requires made { IsMadeBy source.now self.old.entries.items self.old.opened.items tokens.now frame }
+        requires shut { IsTrue in_text → slice_set self.old.opened.items frame.number false ≡ shut self.old.entries.items }
         ensures entries { self.new.entries.items ≡ self.old.entries.items }
         ensures numbers { self.new.numbers ≡ self.old.numbers }
         ensures opened { self.new.opened.items ≡ slice_set self.old.opened.items frame.number false }
@@ -295,12 +308,16 @@ impl Macros {
     {
         let number = frame.number;
         self.opened[number] = false;
-        if !self.is_made(number) && self.is_settled_body(source, number) {
-            self.made[number] = Made {
-                from: frame.from,
-                to: tokens.len(),
-                macros: self.entries.len(),
-            };
+        if !self.is_made(number) {
+            let anywhere = self.is_settled_body(source, number);
+            if anywhere || in_text {
+                self.made[number] = Made {
+                    from: frame.from,
+                    to: tokens.len(),
+                    macros: self.entries.len(),
+                    anywhere,
+                };
+            }
         }
     }
 
@@ -327,7 +344,7 @@ impl Macros {
         }
     }
 
-    /// Adds to the tokens what a token stands for.
+    /// Adds to the tokens what a token of the text stands for.
     pub fn replace(
         &mut self,
         alloc: Global,
@@ -339,6 +356,7 @@ impl Macros {
         requires numbered { AreNumbered source.now self.old.entries.items (number_in self.old.numbers) }
         requires fits { MadeFits source.now self.old.entries.items self.old.opened.items self.old.made.items tokens.old.items }
         requires few { length tokens.old.items ≤ 2 ^ 20 }
+        requires shut { self.old.opened.items ≡ shut self.old.entries.items }
         ensures entries { self.new.entries.items ≡ self.old.entries.items }
         ensures numbers { self.new.numbers ≡ self.old.numbers }
         ensures ok { IfOk result (λ _. Replaced source.now self.old.entries.items self.old.opened.items tokens.old.items word self.new.opened.items self.new.made.items tokens.new.items) }
@@ -348,7 +366,7 @@ impl Macros {
         self.enter(source, word, word.at, &mut stack, tokens)?;
         'frames: while let Some(frame) = stack.pop() {
             match self.next_of(frame) {
-                None => self.leave(source, frame, tokens),
+                None => self.leave(source, frame, stack.is_empty(), tokens),
                 Some((inner, next)) => {
                     stack.push(next)?;
                     self.enter(source, inner, word.at, &mut stack, tokens)?;

@@ -126,7 +126,7 @@ fn faults_stand_where_they_begin(rt: HostRuntime) -> Result<(), Fail> {
 
 #[test]
 fn macros_stand_for_their_tokens(rt: HostRuntime) -> Result<(), Fail> {
-    let rows: [(&[u8], &str); 13] = [
+    let rows: [(&[u8], &str); 14] = [
         (b"#define N 3 /* x\n y */ + 4\nN;N", "d3 p+ d4 p; d3 p+ d4"),
         (b"#/**/define /* a */ N // b\nN x", "nx"),
         (b"#define A B\n#define B 1\nA", "d1"),
@@ -138,6 +138,10 @@ fn macros_stand_for_their_tokens(rt: HostRuntime) -> Result<(), Fail> {
         (
             b"#define A B x\n#define B A y\nA B A",
             "nA ny nx nB nx ny nA ny nx",
+        ),
+        (
+            b"#define A B A\nA A\n#define B 1 A\nA A",
+            "nB nA nB nA d1 nA nA d1 nA nA",
         ),
         (b"A\n#define A 1\nA", "nA d1"),
         (b"#define A x A y\nA", "nx nA ny"),

@@ -30,7 +30,7 @@ returns-in_err-copy-in-Copy-clause-err c =
     let a = c.args in
     let m = a.self.now in
     let named = c.in-Copy.ensures in
-    let same = made_again a.source.now a.at m.entries.items m.opened.items m.made.items a.tokens.now.items a.word c.in-Copy.number c.requires.kept.opened_len c.requires.fits named.0 named.1 in
+    let same = made_again a.source.now a.at m.entries.items m.opened.items m.made.items a.tokens.now.items a.word c.in-Copy.number c.requires.kept.opened_len c.requires.fits named.0 named.1 named.2 in
     let range = ap (λ made. map (moved a.at) (slice_range a.tokens.now.items made.from made.to)) c.made_of.ensures ∙ same in
     let more = subst (λ (ts : List Token). IfErr c.copy.result (λ e. Passes a.at a.tokens.now.items ts e)) range c.copy.ensures.err in
     search (rules, more)
@@ -40,7 +40,7 @@ returns-in_ok-copy-in-Copy-clause-ok c =
     let a = c.args in
     let m = a.self.now in
     let named = c.in-Copy.ensures in
-    let same = made_again a.source.now a.at m.entries.items m.opened.items m.made.items a.tokens.now.items a.word c.in-Copy.number c.requires.kept.opened_len c.requires.fits named.0 named.1 in
+    let same = made_again a.source.now a.at m.entries.items m.opened.items m.made.items a.tokens.now.items a.word c.in-Copy.number c.requires.kept.opened_len c.requires.fits named.0 named.1 named.2 in
     let range = ap (λ made. map (moved a.at) (slice_range a.tokens.now.items made.from made.to)) c.made_of.ensures ∙ same in
     let done = c.in_ok-copy-in-Copy.ensures in
     let count : length (a.tokens.now.items ++ map (moved a.at) (slice_range a.tokens.now.items c.made_of.result.from c.made_of.result.to)) ≤ 2 ^ 20 = subst (λ (ts : List Token). length ts ≤ 2 ^ 20) done.ok done.few in
