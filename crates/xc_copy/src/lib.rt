@@ -7,7 +7,7 @@ mod stmt;
 mod ty;
 
 pub use expr::copy_expr;
-pub use stmt::copy_stmt;
+pub use stmt::{copy_pragmas, copy_stmt};
 pub use ty::copy_ty;
 
 #[cfg(test)]

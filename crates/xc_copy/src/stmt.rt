@@ -7,7 +7,8 @@ use sqlite_items::{Boxed, Items};
 use std::alloc::{AllocError, Global};
 use xc_tree::{Capture, Expr, Pragmas, Stmt, StmtKind};
 
-fn copy_pragmas(alloc: Global, pragmas: &Pragmas) -> Result<Pragmas, AllocError>
+/// A copy of what the pragmas before a loop set.
+pub fn copy_pragmas(alloc: Global, pragmas: &Pragmas) -> Result<Pragmas, AllocError>
     ensures { IfOk result (λ r. r ≡ pragmas.now) }
 {
     let nodep = Items::from_slice(alloc, pragmas.nodep.as_slice())?;
