@@ -1,0 +1,12 @@
+//! What the constants and the string literals of a text stand for. Each call that allocates answers `AllocError` for
+//! want of memory alone.
+#![tactic(auto)]
+
+mod numbers;
+mod texts;
+
+pub use numbers::number_at;
+pub use texts::{Literal, Texts, texts_of};
+
+#[cfg(test)]
+mod tests;

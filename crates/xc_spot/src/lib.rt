@@ -1,0 +1,19 @@
+//! What stands where in a node of the untyped tree: its span, its names and its operators. A node has what its rule
+//! says; of a node of another rule each call still answers as its contract says.
+#![tactic(auto)]
+
+mod names;
+mod operators;
+mod spans;
+
+pub use names::{
+    callee_name, captured_names, declarator_name, member_name, parameter_name, struct_name,
+};
+pub use operators::{
+    Assignment, Operator, Prefix, Suffix, assign_operator, binary_operator, postfix_operator,
+    prefix_operator, step_op,
+};
+pub use spans::{behind, declarator_span, span_of, spot, word_at};
+
+#[cfg(test)]
+mod tests;

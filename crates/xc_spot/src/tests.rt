@@ -1,0 +1,101 @@
+use crate::{Operator, binary_operator, captured_names, parameter_name, span_of};
+use sqlite_items::Items;
+use std::alloc::{AllocError, Global};
+use std::test::Fail;
+use xc_lex::lex;
+use xc_raw::{Raw, Rule};
+use xc_span::Span;
+use xc_tree::BinOp;
+
+fn node(alloc: Global, rule: Rule, first: u32, end: u32) -> Raw {
+    Raw {
+        rule,
+        first,
+        end,
+        parts: Items::new(alloc),
+    }
+}
+
+fn over(alloc: Global, rule: Rule, end: u32, part: Raw) -> Result<Raw, AllocError> {
+    let mut whole = node(alloc, rule, part.first, end);
+    whole.parts.push(part)?;
+    Ok(whole)
+}
+
+#[test]
+fn operators_of_a_text(rt: HostRuntime) -> Result<(), Fail> {
+    let source = b"* / % + - << >> < > <= >= == != & ^ | && ||";
+    let tokens = lex(rt.alloc(), source).ok().ok_or("tokens")?;
+    let wanted = [
+        Operator::Value(BinOp::Mul),
+        Operator::Value(BinOp::Div),
+        Operator::Value(BinOp::Rem),
+        Operator::Value(BinOp::Add),
+        Operator::Value(BinOp::Sub),
+        Operator::Value(BinOp::Shl),
+        Operator::Value(BinOp::Shr),
+        Operator::Value(BinOp::Lt),
+        Operator::Value(BinOp::Gt),
+        Operator::Value(BinOp::Le),
+        Operator::Value(BinOp::Ge),
+        Operator::Value(BinOp::Eq),
+        Operator::Value(BinOp::Ne),
+        Operator::Value(BinOp::BitAnd),
+        Operator::Value(BinOp::BitXor),
+        Operator::Value(BinOp::BitOr),
+        Operator::And,
+        Operator::Or,
+    ];
+    assert_eq!(rt; tokens.len(), wanted.len());
+    for (index, operator) in wanted.iter().enumerate() {
+        let end = index as u32;
+        let left = node(rt.alloc(), Rule::Prim, 0, end);
+        let whole = over(rt.alloc(), Rule::Comma, end, left)?;
+        assert_eq!(rt;
+            binary_operator(source, tokens.as_slice(), &whole),
+            Some(*operator)
+        );
+    }
+    Ok(())
+}
+
+#[test]
+fn a_macro_stands_where_its_name_does(rt: HostRuntime) -> Result<(), Fail> {
+    let source = b"#define N a b\nx N";
+    let tokens = lex(rt.alloc(), source).ok().ok_or("tokens")?;
+    let whole = node(rt.alloc(), Rule::Eval, 0, 3);
+    assert_eq!(rt;
+        span_of(tokens.as_slice(), &whole),
+        Span { start: 14, end: 17 }
+    );
+    Ok(())
+}
+
+#[test]
+fn names_of_a_future_and_of_parameters(rt: HostRuntime) -> Result<(), Fail> {
+    let source = b"f (a, b) {} int *x[n] int [n]";
+    let tokens = lex(rt.alloc(), source).ok().ok_or("tokens")?;
+    let place = node(rt.alloc(), Rule::Place, 0, 1);
+    let mut future = over(rt.alloc(), Rule::Future, 8, place)?;
+    future.parts.push(node(rt.alloc(), Rule::Block, 6, 8))?;
+    let names = captured_names(rt.alloc(), tokens.as_slice(), &future)?;
+    assert!(rt; names.as_slice() == [2, 4].as_slice());
+
+    let mut named = over(
+        rt.alloc(),
+        Rule::Param,
+        14,
+        node(rt.alloc(), Rule::Specs, 8, 9),
+    )?;
+    named.parts.push(node(rt.alloc(), Rule::Prim, 12, 13))?;
+    assert_eq!(rt; parameter_name(tokens.as_slice(), &named), Some(10));
+    let mut unnamed = over(
+        rt.alloc(),
+        Rule::Param,
+        18,
+        node(rt.alloc(), Rule::Specs, 14, 15),
+    )?;
+    unnamed.parts.push(node(rt.alloc(), Rule::Prim, 16, 17))?;
+    assert_eq!(rt; parameter_name(tokens.as_slice(), &unnamed), None);
+    Ok(())
+}
