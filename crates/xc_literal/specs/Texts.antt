@@ -1,9 +1,11 @@
 -- The string literals among the tokens of a text (C99 6.4.5).
-use Rattle.std.specs.Prelude.{ℕ, ◌+◌, ◌==◌, Bool, true, false, if◌then◌else◌, List, [], ◌∷◌, map, filter, Option, Some, None, option_map, option_and_then, slice_get, slice_range}
+use Rattle.std.specs.Prelude.{ℕ, ◌==◌, Bool, true, false, if◌then◌else◌, List, [], ◌∷◌, fold, map, position, Option, None, option_map, option_and_then, slice_get, slice_range}
+use Rattle.indexmap.specs.IndexSet.{insert_key}
 use Rattle.xc_lex.specs.declared.token.Token.{Token}
 use Rattle.xc_lex.specs.declared.token.TokenKind.{TokenKind}
 use Rattle.xc_lex.specs.declared.token.TokenKind.TheVariants as kind
 use Rattle.xc_format.specs.Pieces.{pieces_of, conversions_of}
+use Rattle.xc_literal.specs.Constants.{stretch_eq}
 use Rattle.xc_literal.specs.declared.texts.Literal.{Literal}
 
 abbrev pub is_text_kind : TokenKind → Bool
@@ -28,25 +30,42 @@ abbrev pub bytes_of : List ℕ → List ℕ
 bytes_of [] = []
 bytes_of (q ∷ bs) = bytes_from false bs
 
-abbrev pub text_in : List ℕ → Token → List ℕ
-text_in source t = bytes_of (slice_range source t.text.start t.text.end)
+abbrev pub stretch : Token → ℕ × ℕ
+stretch t = (t.text.start, t.text.end)
 
--- the bytes of the string literals, in their order
+abbrev pub with_text : List (ℕ × ℕ) → Token → List (ℕ × ℕ)
+with_text known t = if is_text t then insert_key stretch_eq known (stretch t) else known
+
+-- where the string literals stand in the source, in the order in which they come first
+abbrev pub stretches : List Token → List (ℕ × ℕ)
+stretches ts = fold with_text [] ts
+
+-- one that a macro brings has one number, however often the macro is used
+abbrev pub number_in : List (ℕ × ℕ) → Token → Option ℕ
+number_in known t = if is_text t then position (stretch_eq (stretch t)) known else None
+
+-- the number of each token that is a string literal
+abbrev pub numbers_of : List Token → List (Option ℕ)
+numbers_of ts = map (number_in (stretches ts)) ts
+
+abbrev pub text_at : List ℕ → ℕ × ℕ → List ℕ
+text_at source p = bytes_of (slice_range source p.0 p.1)
+
+-- the bytes of the string literals, by number
 abbrev pub formats_of : List ℕ → List Token → List (List ℕ)
-formats_of source ts = map (text_in source) (filter is_text ts)
-
--- the number of each token that is a string literal, where those before have the numbers below n
-abbrev pub numbers_from : ℕ → List Token → List (Option ℕ)
-numbers_from n [] = []
-numbers_from n (t ∷ ts) = if is_text t then Some n ∷ numbers_from (n + 1) ts else None ∷ numbers_from n ts
+formats_of source ts = map (text_at source) (stretches ts)
 
 -- how many values a format takes, none where it is no format
 abbrev pub takes : List ℕ → Option ℕ
 takes bytes = option_map conversions_of (pieces_of bytes)
 
-abbrev pub literal_of : List (List ℕ) → ℕ → Literal
-literal_of formats n = record { number = n; takes = option_and_then takes (slice_get formats n) }
+-- the same of each of some formats
+abbrev pub all_taken : List (List ℕ) → List (Option ℕ)
+all_taken formats = map takes formats
+
+abbrev pub literal_of : List (Option ℕ) → ℕ → Literal
+literal_of taken n = record { number = n; takes = option_and_then (λ k. k) (slice_get taken n) }
 
 -- what a token is that has a number
-abbrev pub literal : List (Option ℕ) → List (List ℕ) → ℕ → Option Literal
-literal numbers formats token = option_map (literal_of formats) (option_and_then (λ n. n) (slice_get numbers token))
+abbrev pub literal : List (Option ℕ) → List (Option ℕ) → ℕ → Option Literal
+literal numbers taken token = option_map (literal_of taken) (option_and_then (λ n. n) (slice_get numbers token))

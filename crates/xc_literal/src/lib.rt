@@ -5,7 +5,6 @@
 mod numbers;
 mod texts;
 
-pub use numbers::number_at;
 pub use texts::{Literal, Texts, texts_of};
 
 #[cfg(test)]

@@ -1,20 +1,23 @@
-use crate::{number_at, texts_of};
+use crate::texts_of;
 use std::test::Fail;
 use xc_lex::{Number, lex};
 
 #[test]
 fn values_of_constants(rt: HostRuntime) -> Result<(), Fail> {
-    let source = b"x 017 0xFFFFFFFFFFFFFFFF 7ul";
+    let source = b"#define N 017\nx N 0xFFFFFFFFFFFFFFFF 7ul N 017";
     let tokens = lex(rt.alloc(), source).ok().ok_or("tokens")?;
-    let tokens = tokens.as_slice();
-    assert_eq!(rt; number_at(source, tokens, 0), None);
-    let wanted = [(15, false), (u64::MAX, true), (7, true)];
+    let texts = texts_of(rt.alloc(), source, tokens.as_slice())?;
+    assert_eq!(rt; texts.constant(0), None);
+    let wanted = [
+        (15, false),
+        (u64::MAX, true),
+        (7, true),
+        (15, false),
+        (15, false),
+    ];
     for (index, pair) in wanted.iter().enumerate() {
         let (value, unsigned) = *pair;
-        assert_eq!(rt;
-            number_at(source, tokens, index + 1),
-            Some(Number { value, unsigned })
-        );
+        assert_eq!(rt; texts.constant(index + 1), Some(Number { value, unsigned }));
     }
     Ok(())
 }
@@ -31,8 +34,8 @@ fn texts_of_a_macro(rt: HostRuntime) -> Result<(), Fail> {
     let second = texts.literal(2).ok_or("second")?;
     assert_eq!(rt; (second.number, second.takes), (1, None));
     let third = texts.literal(4).ok_or("third")?;
-    assert_eq!(rt; (third.number, third.takes), (2, Some(1)));
-    let wanted: [&[u8]; 3] = [b"\t%d\"\n", b"\\%", b"\t%d\"\n"];
+    assert_eq!(rt; (third.number, third.takes), (0, Some(1)));
+    let wanted: [&[u8]; 2] = [b"\t%d\"\n", b"\\%"];
     assert_eq!(rt; texts.formats.as_slice().len(), wanted.len());
     for (format, bytes) in texts.formats.as_slice().iter().zip(wanted.iter()) {
         assert!(rt; format.as_slice() == *bytes);

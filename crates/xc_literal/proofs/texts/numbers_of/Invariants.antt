@@ -1,6 +1,7 @@
-use Rattle.std.proofs.Common.{◌≡◌, ◌≤◌, ◌++◌, drop}
-use Rattle.xc_literal.specs.Texts.{numbers_from}
+use Rattle.std.proofs.Common.{◌≡◌, take}
+use Rattle.std.specs.Prelude.{map}
+use Rattle.xc_literal.specs.Texts.{number_in}
 use Rattle.xc_literal.proofs.texts.numbers_of.Given as goal
 
-abbrev pub invariant-tokens : goal.invariant-tokens
-invariant-tokens l = record { made : l.numbers.items ++ numbers_from l.next (drop l.token-index l.tokens) ≡ numbers_from 0 l.tokens; few : l.next ≤ l.token-index }
+abbrev pub invariant-loop-token : goal.invariant-loop-token
+invariant-loop-token l = l.numbers.items ≡ map (number_in l.known.keys) (take l.token-index l.tokens)
