@@ -1,3 +1,5 @@
 pub mod Names
 pub mod Operators
+pub mod Places
 pub mod Spans
+pub mod Nodes

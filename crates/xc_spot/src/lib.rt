@@ -4,6 +4,7 @@
 
 mod names;
 mod operators;
+mod places;
 mod spans;
 
 pub use names::{
@@ -13,6 +14,7 @@ pub use operators::{
     Assignment, Operator, Prefix, Suffix, assign_operator, binary_operator, postfix_operator,
     prefix_operator, step_op,
 };
+pub use places::{Brackets, PlaceStep, first_brackets, place_steps};
 pub use spans::{behind, declarator_span, span_of, spot, word_at};
 
 #[cfg(test)]

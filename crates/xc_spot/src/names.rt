@@ -60,7 +60,7 @@ pub fn declarator_name(tokens: &[Token], node: &Raw) -> Option<usize>
     first_name(tokens, node.first, node.end)
 }
 
-fn first_bound(node: &Raw) -> u32
+pub(crate) fn first_bound(node: &Raw) -> u32
     ensures { result ≡ spec.first_bound node.now }
 {
     match node.parts.as_slice().get(1) {

@@ -1,9 +1,11 @@
-use crate::{Operator, binary_operator, captured_names, parameter_name, span_of};
+use crate::{
+    Operator, PlaceStep, binary_operator, captured_names, parameter_name, place_steps, span_of,
+};
 use sqlite_items::Items;
 use std::alloc::{AllocError, Global};
 use std::test::Fail;
 use xc_lex::lex;
-use xc_raw::{Raw, Rule};
+use xc_raw::{Access, Raw, Rule};
 use xc_span::Span;
 use xc_tree::BinOp;
 
@@ -97,5 +99,36 @@ fn names_of_a_future_and_of_parameters(rt: HostRuntime) -> Result<(), Fail> {
     )?;
     unnamed.parts.push(node(rt.alloc(), Rule::Prim, 16, 17))?;
     assert_eq!(rt; parameter_name(tokens.as_slice(), &unnamed), None);
+    Ok(())
+}
+
+#[test]
+fn steps_of_a_place(rt: HostRuntime) -> Result<(), Fail> {
+    let source = b"x.a[i]->b";
+    let tokens = lex(rt.alloc(), source).ok().ok_or("tokens")?;
+    let mut place = node(rt.alloc(), Rule::Place, 0, 8);
+    place.parts.push(node(rt.alloc(), Rule::Prim, 4, 5))?;
+    let steps = place_steps(rt.alloc(), source, tokens.as_slice(), &place)?;
+    let steps = steps.as_slice();
+    assert_eq!(rt; steps.len(), 3);
+    assert!(rt;
+        matches!(
+            steps[0],
+            PlaceStep::Member {
+                access: Access::Dot,
+                name: 2
+            }
+        )
+    );
+    assert!(rt; matches!(steps[1], PlaceStep::Index));
+    assert!(rt;
+        matches!(
+            steps[2],
+            PlaceStep::Member {
+                access: Access::Arrow,
+                name: 7
+            }
+        )
+    );
     Ok(())
 }
