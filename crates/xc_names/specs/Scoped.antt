@@ -1,5 +1,5 @@
 -- Scopes, outermost first: lists of names with what they stand for (C99 6.2.1).
-use Rattle.std.specs.Prelude.{ℕ, ◌-◌, Bool, true, nat_eq, is_none, List, [], ◌∷◌, ◌++◌, Option, Some, None, length, take}
+use Rattle.std.specs.Prelude.{ℕ, ◌-◌, Bool, true, false, nat_eq, is_none, List, [], ◌∷◌, ◌++◌, Option, Some, None, length, take}
 use Rattle.std.specs.Map.{lookup}
 use Rattle.indexmap.specs.IndexMap.{insert_entry}
 
@@ -39,3 +39,8 @@ module _ {T : Type 0} where
   is_new name [] = true
   is_new name (s ∷ []) = is_none (in_one name s)
   is_new name (s ∷ t ∷ ss) = is_new name (t ∷ ss)
+
+  -- there is no scope
+  abbrev pub has_none : List (List (ℕ × T)) → Bool
+  has_none [] = true
+  has_none (s ∷ ss) = false

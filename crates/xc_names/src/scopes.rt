@@ -2,7 +2,7 @@
 
 ghost use Rattle.std.specs.Prelude.{◌≡◌, map, OnOk, []};
 ghost use Rattle.std.specs.Option.{option_copied};
-ghost use Rattle.xc_names.specs.Scoped.{found_in, entered, left, declared_in, is_new, in_one, or_else};
+ghost use Rattle.xc_names.specs.Scoped.{found_in, entered, left, declared_in, is_new, in_one, or_else, has_none};
 
 use indexmap::IndexMap;
 use std::alloc::{AllocError, Global};
@@ -86,6 +86,16 @@ impl<T: Drop> Scopes<T> {
     {
         let scopes = self.scopes.as_slice();
         is_new_in(scopes, name)
+    }
+
+    /// Whether there is no scope.
+    pub fn is_empty(&self) -> bool
+        ensures { result ≡ has_none self.now }
+    {
+        match self.scopes.as_slice() {
+            [] => true,
+            _ => false,
+        }
     }
 
     /// A new scope, innermost.

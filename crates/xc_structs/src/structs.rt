@@ -180,19 +180,21 @@ impl Structs {
         }
     }
 
-    /// A new struct, which is not complete. It has the next number.
+    /// A new struct, which is not complete. It has the next number. Past 2^32 - 1 structs the answer is want of memory.
     pub fn open(&mut self, alloc: Global) -> Result<u32, AllocError>
-        requires { length self.old.sizes < 2 ^ 32 }
         ensures number { IfOk result (λ r. r ≡ length self.old.sizes) }
         ensures opened { OnOk result (self.new ≡ spec.opened self.old) }
         ensures agrees { OnOk result ((shapes : List Shape) → Agrees self.old shapes → Agrees self.new (shapes ++ no_cells ∷ [])) }
     {
-        let number = self.sizes.len() as u32;
+        let number = self.sizes.len();
+        if number >= u32::MAX as usize {
+            return Err(AllocError);
+        }
         self.members.push(Members::new(alloc))?;
         self.mixed.push(false)?;
         self.kinds.push(no_kinds())?;
         self.sizes.push(0)?;
-        Ok(number)
+        Ok(number as u32)
     }
 
     /// A struct is complete, with this layout.
