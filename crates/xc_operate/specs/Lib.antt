@@ -1,0 +1,4 @@
+pub mod Rulings
+pub mod Operators
+pub mod Verdicts
+pub mod Pairs

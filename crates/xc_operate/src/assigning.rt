@@ -1,0 +1,101 @@
+//! Assignments.
+
+ghost use Rattle.std.specs.Prelude.{◌≡◌, IfOk, OnOk, false};
+ghost use Rattle.std.specs.Option.{option_copied};
+ghost use Rattle.xc_tree.specs.Typed.{sort_of};
+ghost use Rattle.xc_found.specs.Least.{least_from};
+ghost use Rattle.xc_operate.specs.Operators as spec;
+
+use crate::double::kept;
+use crate::kinds::{Pair, paired};
+use crate::rulings::{assign_ruling, target, update_ruling};
+use crate::single::number;
+use std::alloc::{AllocError, Global};
+use xc_found::{Fault, Found, given, may_be_place};
+use xc_span::Span;
+use xc_tree::{BinOp, Ty};
+
+#[tactic(auto, unfolding(crate::specs::Operators::suited))]
+fn suited(alloc: Global, to: Option<&Ty>, value: Found) -> Result<Found, AllocError>
+    ensures { IfOk result (λ r. r ≡ spec.suited (option_copied to.entry) value) }
+{
+    match to {
+        None => Ok(value),
+        Some(ty) => given(alloc, ty, value),
+    }
+}
+
+/// `=` of a place and a value. The write is of the kind that the place's qualifier demands.
+#[tactic(auto, unfolding(crate::specs::Operators::assign_part, crate::specs::Operators::assign_faults, crate::specs::Operators::written_part, crate::specs::Operators::written_faults, crate::specs::Rulings::assign_ruling))]
+pub fn assign(
+    alloc: Global,
+    span: Span,
+    to: Found,
+    value: Found,
+    first: &mut Option<Fault>,
+) -> Result<Found, AllocError>
+    ensures part { IfOk result (λ r. r ≡ spec.assign_part span to value) }
+    ensures first { OnOk result (first.new ≡ least_from first.old (spec.assign_faults span to value)) }
+{
+    let unsure = may_be_place(&to.known);
+    let ty = target(to.known);
+    let value = suited(alloc, ty.as_ref(), value)?;
+    let ruling = assign_ruling(unsure, ty, &value.known);
+    paired(alloc, span, ruling, Pair::Write, to.made, value.made, first)
+}
+
+#[tactic(auto, unfolding(crate::specs::Operators::update_part, crate::specs::Operators::update_faults))]
+fn updated(
+    alloc: Global,
+    span: Span,
+    op: BinOp,
+    post: bool,
+    to: Found,
+    value: Found,
+    first: &mut Option<Fault>,
+) -> Result<Found, AllocError>
+    ensures part { IfOk result (λ r. r ≡ spec.update_part span op post to value) }
+    ensures first { OnOk result (first.new ≡ least_from first.old (spec.update_faults span op to value)) }
+{
+    let ruling = update_ruling(op, to.known, &value.known);
+    paired(
+        alloc,
+        span,
+        ruling,
+        Pair::Update { op, post },
+        to.made,
+        value.made,
+        first,
+    )
+}
+
+/// A compound assignment of a place and a value.
+pub fn update(
+    alloc: Global,
+    span: Span,
+    op: BinOp,
+    to: Found,
+    value: Found,
+    first: &mut Option<Fault>,
+) -> Result<Found, AllocError>
+    ensures part { IfOk result (λ r. r ≡ spec.update_part span op false to value) }
+    ensures first { OnOk result (first.new ≡ least_from first.old (spec.update_faults span op to value)) }
+{
+    updated(alloc, span, op, false, to, value, first)
+}
+
+/// `++` or `--` of a place: `op` is `+` or `-`, and `post` says that the operator stands behind.
+pub fn step(
+    alloc: Global,
+    span: Span,
+    op: BinOp,
+    post: bool,
+    to: Found,
+    first: &mut Option<Fault>,
+) -> Result<Found, AllocError>
+    ensures part { IfOk result (λ r. r ≡ spec.step_part span op post to) }
+    ensures first { OnOk result (first.new ≡ least_from first.old (spec.step_faults span op to)) }
+{
+    let (one, to) = kept(number(alloc, span, 1, false), to)?;
+    updated(alloc, span, op, post, to, one, first)
+}
