@@ -1,0 +1,2 @@
+//! What calls make is well typed where their arguments are.
+#![tactic(auto)]

@@ -1,0 +1,2 @@
+//! What operators make is well typed where their operands are.
+#![tactic(auto)]

@@ -1,0 +1,5 @@
+pub mod Names
+pub mod Elements
+pub mod Members
+pub mod Addresses
+pub mod Whole

@@ -1,0 +1,9 @@
+pub mod Types
+pub mod Objects
+pub mod Points
+pub mod Forms
+pub mod Accesses
+pub mod Nulls
+pub mod Founds
+pub mod Held
+pub mod Whole

@@ -1,0 +1,2 @@
+//! When what is made of an expression is well typed, as it is known.
+#![tactic(auto)]
