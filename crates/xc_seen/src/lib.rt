@@ -1,0 +1,2 @@
+//! What rules make names no more locals than their parts do.
+#![tactic(auto)]
