@@ -1,0 +1,3 @@
+pub mod Env
+pub mod Judge
+pub mod Told
