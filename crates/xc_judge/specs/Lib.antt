@@ -1,0 +1,6 @@
+pub mod Roles
+pub mod Places
+pub mod Operations
+pub mod Calls
+pub mod Types
+pub mod Judged
