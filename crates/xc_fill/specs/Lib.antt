@@ -1,0 +1,4 @@
+pub mod Parts
+pub mod Inits
+pub mod Words
+pub mod Cells
