@@ -1,14 +1,43 @@
-use crate::{Text, declared, found, specified};
+use crate::{Declared, Text, declared, found, specified};
 use std::alloc::Global;
 use std::test::Fail;
 use xc_found::{Breach, Fault, Thing};
-use xc_lex::{Tokens, lex};
+use xc_lex::{Token, Tokens, lex};
 use xc_literal::texts_of;
 use xc_names::Names;
 use xc_parse::parse;
 use xc_raw::Raw;
 use xc_scope::Env;
 use xc_tree::Ty;
+
+// The most bytes, and the most tokens, of a text.
+const MOST: usize = 1 << 20;
+
+fn declare(env: &mut Env, one: Declared) -> Result<(), Fail> {
+    match one.name {
+        Some(name) => Ok(env.declare_global(
+            name,
+            Thing::Global {
+                number: 0,
+                ty: one.ty,
+            },
+        )?),
+        None => Ok(()),
+    }
+}
+
+fn judge_initialisers(
+    alloc: Global,
+    text: &Text,
+    env: &mut Env,
+    nodes: &[Raw],
+    first: &mut Option<Fault>,
+) -> Result<(), Fail> {
+    for node in nodes {
+        let _ = found(alloc, text, env, node, first)?;
+    }
+    Ok(())
+}
 
 // A declarator at file scope, and its initialiser.
 fn judge_declarator(
@@ -22,22 +51,25 @@ fn judge_declarator(
     match node.parts.as_slice() {
         [declarator, rest @ ..] => {
             let one = declared(alloc, text, env, declarator, base, first)?;
-            if let Some(name) = one.name {
-                env.declare_global(
-                    name,
-                    Thing::Global {
-                        number: 0,
-                        ty: one.ty,
-                    },
-                )?;
-            }
-            for e in rest {
-                let _ = found(alloc, text, env, e, first)?;
-            }
-            Ok(())
+            declare(env, one)?;
+            judge_initialisers(alloc, text, env, rest, first)
         }
         [] => Ok(()),
     }
+}
+
+fn judge_declarators(
+    alloc: Global,
+    text: &Text,
+    env: &mut Env,
+    nodes: &[Raw],
+    base: &Option<Ty>,
+    first: &mut Option<Fault>,
+) -> Result<(), Fail> {
+    for node in nodes {
+        judge_declarator(alloc, text, env, node, base, first)?;
+    }
+    Ok(())
 }
 
 // A declaration at file scope.
@@ -51,40 +83,76 @@ fn judge_declaration(
     match node.parts.as_slice() {
         [specs, rest @ ..] => {
             let ty = specified(alloc, text, env, specs, true, first)?;
-            for one in rest {
-                judge_declarator(alloc, text, env, one, &ty, first)?;
-            }
-            Ok(())
+            judge_declarators(alloc, text, env, rest, &ty, first)
         }
         [] => Ok(()),
     }
 }
 
+fn judge_declarations(
+    alloc: Global,
+    text: &Text,
+    env: &mut Env,
+    nodes: &[Raw],
+    first: &mut Option<Fault>,
+) -> Result<(), Fail> {
+    for node in nodes {
+        judge_declaration(alloc, text, env, node, first)?;
+    }
+    Ok(())
+}
+
+fn judge_text(alloc: Global, text: &Text, raw: &Raw) -> Result<Option<Fault>, Fail> {
+    let mut env = Env::new(alloc)?;
+    let mut first = None;
+    judge_declarations(alloc, text, &mut env, raw.parts.as_slice(), &mut first)?;
+    Ok(first)
+}
+
+fn judge_named(
+    alloc: Global,
+    source: &[u8],
+    tokens: &[Token],
+    names: &Names,
+    raw: &Raw,
+) -> Result<Option<Fault>, Fail> {
+    if tokens.len() > MOST {
+        return Err("long".into());
+    }
+    let texts = texts_of(alloc, source, tokens)?;
+    let text = Text {
+        source,
+        tokens,
+        names,
+        texts: &texts,
+    };
+    judge_text(alloc, &text, raw)
+}
+
+fn judge_tree(
+    alloc: Global,
+    source: &[u8],
+    tokens: &[Token],
+    raw: &Raw,
+) -> Result<Option<Fault>, Fail> {
+    if source.len() > MOST || tokens.len() > MOST {
+        return Err("long".into());
+    }
+    let names = Names::new(alloc, source, tokens)?;
+    judge_named(alloc, source, tokens, &names, raw)
+}
+
 fn judge_tokens(alloc: Global, source: &[u8], tokens: &Tokens) -> Result<Option<Fault>, Fail> {
-    let list = tokens.as_slice();
-    if source.len() > 1 << 20 || tokens.len() > 1 << 20 || list.len() > 1 << 20 {
+    if source.len() > MOST || tokens.len() > MOST {
         return Err("long".into());
     }
     let raw = parse(alloc, source, tokens).ok().ok_or("tree")?;
-    let names = Names::new(alloc, source, list)?;
-    let texts = texts_of(alloc, source, list)?;
-    let text = Text {
-        source,
-        tokens: list,
-        names: &names,
-        texts: &texts,
-    };
-    let mut env = Env::new(alloc)?;
-    let mut first = None;
-    for item in raw.parts.as_slice() {
-        judge_declaration(alloc, &text, &mut env, item, &mut first)?;
-    }
-    Ok(first)
+    judge_tree(alloc, source, tokens.as_slice(), &raw)
 }
 
 // What a text of declarations breaks, each of whose initialisers is one expression.
 fn fault_of(alloc: Global, source: &[u8]) -> Result<Option<Fault>, Fail> {
-    if source.len() > 1 << 20 {
+    if source.len() > MOST {
         return Err("long".into());
     }
     let tokens = lex(alloc, source).ok().ok_or("tokens")?;

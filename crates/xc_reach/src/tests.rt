@@ -1,67 +1,103 @@
-use crate::{address, arrow, arrow_owner, dot, dot_owner, index, name, star};
+use crate::{address, arrow, dot, index, name, star};
 use sqlite_items::Boxed;
 use std::alloc::Global;
-use std::process::Abort;
 use std::test::Fail;
-use xc_found::{Fault, Found, Known, Member, Thing, place_from, rvalue, value_from};
+use xc_found::{
+    Fault, Found, Known, Member, Thing, place_from, typed, unknown_place, unknown_value, value_from,
+};
 use xc_span::Span;
 use xc_tree::{ExprKind, Ty};
 
 const HERE: Span = Span { start: 3, end: 9 };
 
-/// The global array `int a[5]`.
-fn array(alloc: Global, first: &mut Option<Fault>) -> Result<Found, Fail> {
-    let thing = Thing::Global {
-        number: 2,
-        ty: Some(Ty::Array(5, Boxed::new(alloc, Ty::Int)?)),
-    };
-    Ok(name(alloc, HERE, Some(&thing), first)?)
+const THING: Thing = Thing::Global {
+    number: 2,
+    ty: Some(Ty::Int),
+};
+
+const MEMBER: Member = Member {
+    name: 7,
+    off: 1,
+    ty: Some(Ty::Int),
+};
+
+fn five() -> Found {
+    Found {
+        known: Known::Value(Ty::Int),
+        made: Some(typed(HERE, Ty::Int, ExprKind::Const(5))),
+    }
 }
 
-fn number(alloc: Global, value: u64) -> Result<Found, Fail> {
-    Ok(value_from(alloc, HERE, Ty::Int, Some(ExprKind::Const(value)))?)
+/// An array of five.
+fn array(alloc: Global) -> Result<Found, Fail> {
+    let ty = Ty::Array(5, Boxed::new(alloc, Ty::Int)?);
+    Ok(place_from(alloc, HERE, ty, false, Some(ExprKind::Global(2)))?)
 }
 
-fn has_bound(rt: &impl Abort, found: &Found, wanted: Option<u32>) {
-    let made = found.made.as_ref().expect(rt, "made");
-    match &made.kind {
-        ExprKind::Index { bound, .. } => assert_eq!(rt; *bound, wanted),
-        _ => assert!(rt; false),
+/// The element of it with number 5.
+fn element(alloc: Global) -> Result<Found, Fail> {
+    let a = array(alloc)?;
+    Ok(index(alloc, &[], HERE, HERE, a, five(), &mut None)?)
+}
+
+fn pointer(alloc: Global, to: Ty) -> Result<Found, Fail> {
+    let ty = Ty::Ptr(Boxed::new(alloc, to)?);
+    Ok(value_from(alloc, HERE, ty, Some(ExprKind::Const(0)))?)
+}
+
+fn bound_of(found: &Found) -> Option<Option<u32>> {
+    match &found.made {
+        Some(made) => match &made.kind {
+            ExprKind::Index { bound, .. } => Some(*bound),
+            _ => None,
+        },
+        None => None,
+    }
+}
+
+/// Whether it is an object of type `int`, and whether it lies in a struct with a pointer and a cell of another type.
+fn is_int_within(found: &Found) -> Option<bool> {
+    match &found.known {
+        Known::Place {
+            ty: Ty::Int,
+            within,
+        } => Some(*within),
+        _ => None,
     }
 }
 
 #[test]
+fn a_name_leads_to_its_object(rt: HostRuntime) -> Result<(), Fail> {
+    let found = name(rt.alloc(), HERE, Some(&THING), &mut None)?;
+    assert!(rt; is_int_within(&found) == Some(false));
+    Ok(())
+}
+
+#[test]
 fn an_array_is_indexed_up_to_its_bound(rt: HostRuntime) -> Result<(), Fail> {
-    let mut first: Option<Fault> = None;
-    let a = array(rt.alloc(), &mut first)?;
-    let five = number(rt.alloc(), 5)?;
-    let element = index(rt.alloc(), &[], HERE, HERE, a, five, &mut first)?;
-    has_bound(&rt, &element, Some(5));
-    let past = address(rt.alloc(), HERE, element, &mut first)?;
-    has_bound(&rt, &past, Some(6));
-    assert!(rt; first.is_none());
+    let element = element(rt.alloc())?;
+    assert!(rt; bound_of(&element) == Some(Some(5)));
+    Ok(())
+}
+
+#[test]
+fn an_address_may_lie_just_past_an_array(rt: HostRuntime) -> Result<(), Fail> {
+    let element = element(rt.alloc())?;
+    let past = address(rt.alloc(), HERE, element, &mut None)?;
+    assert!(rt; bound_of(&past) == Some(Some(6)));
     Ok(())
 }
 
 #[test]
 fn a_pointer_is_followed_without_a_bound(rt: HostRuntime) -> Result<(), Fail> {
-    let mut first: Option<Fault> = None;
-    let a = array(rt.alloc(), &mut first)?;
-    let p = rvalue(rt.alloc(), &[], HERE, a, &mut first)?;
-    let place = star(rt.alloc(), &[], HERE, p, &mut first)?;
-    has_bound(&rt, &place, None);
-    assert!(rt; first.is_none());
+    let p = pointer(rt.alloc(), Ty::Int)?;
+    let place = star(rt.alloc(), &[], HERE, p, &mut None)?;
+    assert!(rt; bound_of(&place) == Some(None));
     Ok(())
 }
 
 #[test]
-fn members_lie_in_their_struct(rt: HostRuntime) -> Result<(), Fail> {
-    let mut first: Option<Fault> = None;
-    let member = Member {
-        name: 7,
-        off: 1,
-        ty: Some(Ty::Int),
-    };
+fn a_member_lies_in_its_struct(rt: HostRuntime) -> Result<(), Fail> {
     let s = place_from(
         rt.alloc(),
         HERE,
@@ -69,50 +105,48 @@ fn members_lie_in_their_struct(rt: HostRuntime) -> Result<(), Fail> {
         false,
         Some(ExprKind::Auto(4)),
     )?;
-    assert_eq!(rt; dot_owner(&s.known), Some(2));
-    let of = dot(rt.alloc(), HERE, HERE, Some(&member), true, s, &mut first)?;
-    assert!(rt;
-        matches!(
-            &of.known,
-            Known::Place {
-                ty: Ty::Int,
-                within: true
-            }
-        )
-    );
-    let to = Ty::Ptr(Boxed::new(rt.alloc(), Ty::Struct(2))?);
-    let p = value_from(rt.alloc(), HERE, to, Some(ExprKind::Const(0)))?;
-    assert_eq!(rt; arrow_owner(&p.known), Some(2));
-    let of = arrow(rt.alloc(), HERE, HERE, Some(&member), false, p, &mut first)?;
-    assert!(rt;
-        matches!(
-            &of.known,
-            Known::Place {
-                ty: Ty::Int,
-                within: false
-            }
-        )
-    );
-    assert!(rt; of.made.is_some());
+    let of = dot(rt.alloc(), HERE, HERE, Some(&MEMBER), true, s, &mut None)?;
+    assert!(rt; is_int_within(&of) == Some(true));
+    Ok(())
+}
+
+#[test]
+fn a_member_lies_in_the_struct_that_a_pointer_leads_to(rt: HostRuntime) -> Result<(), Fail> {
+    let p = pointer(rt.alloc(), Ty::Struct(2))?;
+    let of = arrow(rt.alloc(), HERE, HERE, Some(&MEMBER), false, p, &mut None)?;
+    assert!(rt; is_int_within(&of) == Some(false));
+    Ok(())
+}
+
+#[test]
+fn what_may_be_a_pointer_is_followed(rt: HostRuntime) -> Result<(), Fail> {
+    let mut first: Option<Fault> = None;
+    let _ = star(rt.alloc(), &[], HERE, unknown_value(), &mut first)?;
     assert!(rt; first.is_none());
     Ok(())
 }
 
 #[test]
-fn what_is_declared_with_a_fault_has_no_more_faults(rt: HostRuntime) -> Result<(), Fail> {
+fn what_may_be_a_struct_has_members(rt: HostRuntime) -> Result<(), Fail> {
     let mut first: Option<Fault> = None;
-    let thing = Thing::Local {
-        number: 0,
-        ty: None,
-    };
-    let p = name(rt.alloc(), HERE, Some(&thing), &mut first)?;
-    let s = star(rt.alloc(), &[], HERE, p, &mut first)?;
-    let member = dot(rt.alloc(), HERE, HERE, None, false, s, &mut first)?;
-    let to = address(rt.alloc(), HERE, member, &mut first)?;
-    assert!(rt; matches!(&to.known, Known::Unknown { place: false }));
+    let s = unknown_place();
+    let _ = dot(rt.alloc(), HERE, HERE, None, false, s, &mut first)?;
     assert!(rt; first.is_none());
-    let none = address(rt.alloc(), HERE, to, &mut first)?;
-    assert!(rt; none.made.is_none());
+    Ok(())
+}
+
+#[test]
+fn what_may_be_a_place_has_an_address(rt: HostRuntime) -> Result<(), Fail> {
+    let mut first: Option<Fault> = None;
+    let _ = address(rt.alloc(), HERE, unknown_place(), &mut first)?;
+    assert!(rt; first.is_none());
+    Ok(())
+}
+
+#[test]
+fn a_value_has_no_address(rt: HostRuntime) -> Result<(), Fail> {
+    let mut first: Option<Fault> = None;
+    let _ = address(rt.alloc(), HERE, unknown_value(), &mut first)?;
     assert!(rt; first.is_some());
     Ok(())
 }
