@@ -15,7 +15,7 @@ abbrev most : ℕ
 most = 2 ^ 32 - 1
 
 -- a product is cut off once or twice
-cut_times : (n x m : ℕ) → min (n * min x m) m ≡ min (n * x) m
+pub cut_times : (n x m : ℕ) → min (n * min x m) m ≡ min (n * x) m
 cut_times zero x m = grind arith
 cut_times (suc n) x m = by (leb m x) refl
   where

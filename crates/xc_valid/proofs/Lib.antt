@@ -1,0 +1,15 @@
+pub mod Told
+pub mod Members
+pub mod Passed
+pub mod Held
+pub mod Spots
+pub mod Ascends
+pub mod Clauses
+pub mod Counts
+pub mod Added
+pub mod Numbers
+pub mod Levels
+pub mod Ranked
+pub mod Masked
+pub mod Words
+pub mod Whole
