@@ -1,0 +1,74 @@
+//! The call that checks a text.
+
+ghost use Rattle.std.specs.Prelude.{◌≡◌, ◌≤◌, ◌<◌, ◌^◌, length, IfOk, IfErr};
+ghost use Rattle.xc_type.specs.Checked as spec;
+
+use crate::fault::{CheckFault, placed};
+use crate::made::made;
+use std::alloc::Global;
+use xc_judge::Text;
+use xc_lex::{Token, Tokens};
+use xc_literal::{Texts, texts_of};
+use xc_names::Names;
+use xc_outer::{Whole, outer};
+use xc_raw::Raw;
+use xc_span::position;
+use xc_tree::Tree;
+
+/// What the declarations of a text make, or its first fault.
+#[tactic(auto, using(crate::proofs::Faults::fault_rules))]
+fn judged(alloc: Global, text: &Text, raw: &Raw) -> Result<Whole, CheckFault>
+    requires { length text.now.source.now ≤ 2 ^ 20 }
+    ensures whole { IfOk result (spec.IsWhole text.now raw.now) }
+    ensures fault { IfErr result (spec.IsFaultIn text.now raw.now) }
+{
+    let mut first = None;
+    let whole = outer(alloc, text, raw, &mut first)?;
+    if let Some(fault) = first {
+        return Err(placed(text.source, fault));
+    }
+    if let Some(at) = whole.scope.env.over() {
+        return Err(CheckFault::Count(position(text.source, at as usize)));
+    }
+    Ok(whole)
+}
+
+/// The same, of a source with these tokens.
+#[tactic(auto, using(crate::proofs::Faults::fault_rules))]
+fn checked(
+    alloc: Global,
+    source: &[u8],
+    tokens: &[Token],
+    text: &Text,
+    raw: &Raw,
+) -> Result<Whole, CheckFault>
+    requires short { length source.now ≤ 2 ^ 20 }
+    requires text { spec.IsText source.now tokens.now text.now }
+    ensures whole { IfOk result (spec.IsWholeOf source.now tokens.now raw.now) }
+    ensures fault { IfErr result (spec.IsFault source.now tokens.now raw.now) }
+{
+    judged(alloc, text, raw)
+}
+
+/// The typed tree of a text, or its first fault: of all its faults of names and types the first in the text, a name
+/// before a type at one place; where there is none, the first place at which a count passes its limit.
+#[tactic(auto, using(crate::proofs::Faults::fault_rules))]
+pub fn check(alloc: Global, source: &[u8], tokens: &Tokens, raw: Raw) -> Result<Tree, CheckFault>
+    requires short { length source.now ≤ 2 ^ 20 }
+    requires few { length tokens.now ≤ 2 ^ 20 }
+    ensures tree { IfOk result (spec.IsTree source.now tokens.now raw) }
+    ensures fault { IfErr result (spec.IsFault source.now tokens.now raw) }
+{
+    let tokens = tokens.as_slice();
+    let names = Names::new(alloc, source, tokens)?;
+    let texts = texts_of(alloc, source, tokens)?;
+    let text = Text {
+        source,
+        tokens,
+        names: &names,
+        texts: &texts,
+    };
+    let whole = checked(alloc, source, tokens, &text, &raw)?;
+    let Texts { formats, .. } = texts;
+    made(alloc, whole, formats)
+}
