@@ -1,0 +1,61 @@
+-- What a source is compiled to, and why one is refused.
+use Rattle.std.specs.Prelude.{◌≡◌, ℕ, List, Option, Some, None}
+use Rattle.xc_span.specs.declared.Span.{Span}
+use Rattle.xc_span.specs.declared.Pos.{Pos}
+use Rattle.xc_span.specs.Place.{IsPosition}
+use Rattle.xc_lex.specs.declared.token.Token.{Token}
+use Rattle.xc_lex.specs.declared.lexer.LexFault.TheVariants as lex
+use Rattle.xc_lex.specs.Source.{AreTokens, FaultFits as IsLexFault}
+use Rattle.xc_raw.specs.declared.tree.Raw.{Raw}
+use Rattle.xc_parse.specs.declared.parser.ParseFault.TheVariants as parse
+use Rattle.xc_parse.specs.Texts.{words_of, Parsed, FaultFits as IsParseFault}
+use Rattle.xc_tree.specs.declared.tree.Tree.{Tree}
+use Rattle.xc_type.specs.declared.fault.CheckFault.TheVariants as check
+use Rattle.xc_type.specs.Checked.{IsTree, IsFault}
+use Rattle.xc_isa.specs.declared.code.Code.{Code}
+use Rattle.xc_thread.specs.Terms.{program_of}
+use Rattle.xc_emit.specs.Unbuilt.{unbuilt_of}
+use Rattle.xc_emit.specs.Faithful.{Faithful, NoStuck, Ends}
+use Rattle.xc_driver.specs.declared.compiler.Compiled.{Compiled}
+use Rattle.xc_driver.specs.declared.fault.RefusalKind.{RefusalKind}
+use Rattle.xc_driver.specs.declared.fault.RefusalKind.TheVariants.{Lex, Syntax, Depth, Name, Typing, Count, Unbuilt}
+use Rattle.xc_driver.specs.declared.fault.CompileFault.{CompileFault}
+use Rattle.xc_driver.specs.declared.fault.CompileFault.TheVariants.{NoMemory, Refused}
+
+-- a source with its tokens and their untyped tree
+pub record IsParsed (source : List ℕ) (tokens : List Token) (raw : Raw) : Type 0 where
+  pub tokens_are : AreTokens source tokens
+  pub parsed : Parsed (words_of source tokens) raw
+
+-- the typed tree of a source
+abbrev pub IsTreeOf : List ℕ → Tree → Type 0
+IsTreeOf source tree = (tokens : List Token) × (raw : Raw) × IsParsed source tokens raw × IsTree source tokens raw tree
+
+-- the code of a tree is faithful to its program, never stuck, and ends in time
+pub record IsCodeOf (tree : Tree) (code : Code) : Type 0 where
+  pub faithful : Faithful (program_of tree) code
+  pub no_stuck : NoStuck code
+  pub ends : Ends (program_of tree) code
+
+pub record IsCompiled (source : List ℕ) (c : Compiled) : Type 0 where
+  pub tree : IsTreeOf source c.tree
+  pub code : IsCodeOf c.tree c.code
+
+-- the first form that has no code yet begins there
+abbrev pub IsUnbuilt : List ℕ → Pos → Type 0
+IsUnbuilt source pos = (tree : Tree) × IsTreeOf source tree × (at : Span) × (unbuilt_of tree ≡ Some at) × IsPosition source at.start pos
+
+-- Why there is no code. The kinds exclude one another: there are tokens where Lex is not the reason, an untyped tree where Syntax and
+-- Depth are not, and a typed one where Name, Typing and Count are not.
+abbrev pub IsRefusal : List ℕ → RefusalKind → Pos → Type 0
+IsRefusal source Lex pos = IsLexFault source (lex.At pos)
+IsRefusal source Syntax pos = (tokens : List Token) × AreTokens source tokens × IsParseFault source tokens (parse.Syntax pos)
+IsRefusal source Depth pos = (tokens : List Token) × AreTokens source tokens × IsParseFault source tokens (parse.Depth pos)
+IsRefusal source Name pos = (tokens : List Token) × (raw : Raw) × IsParsed source tokens raw × IsFault source tokens raw (check.Name pos)
+IsRefusal source Typing pos = (tokens : List Token) × (raw : Raw) × IsParsed source tokens raw × IsFault source tokens raw (check.Typing pos)
+IsRefusal source Count pos = (tokens : List Token) × (raw : Raw) × IsParsed source tokens raw × IsFault source tokens raw (check.Count pos)
+IsRefusal source Unbuilt pos = IsUnbuilt source pos
+
+abbrev pub IsRefused : List ℕ → CompileFault → Type 0
+IsRefused source NoMemory = Unit {0}
+IsRefused source (Refused r) = IsRefusal source r.kind r.at

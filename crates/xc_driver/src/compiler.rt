@@ -1,0 +1,100 @@
+//! The passes, one behind another.
+
+ghost use Rattle.std.specs.Prelude.{◌≡◌, ◌≤◌, ◌^◌, length, IfOk, IfErr};
+ghost use Rattle.xc_lex.specs.Source.{AreTokens};
+ghost use Rattle.xc_type.specs.Checked.{IsTree};
+ghost use Rattle.xc_driver.specs.Compiles as spec;
+
+use crate::fault::{CompileFault, Refusal, RefusalKind};
+use std::alloc::Global;
+use xc_emit::{code_of, unbuilt};
+use xc_isa::Code;
+use xc_lex::{LexFault, Tokens, lex};
+use xc_parse::{ParseFault, parse};
+use xc_raw::Raw;
+use xc_span::{Pos, position};
+use xc_tree::Tree;
+use xc_type::{CheckFault, check};
+
+/// A program that is compiled: its typed tree and its code.
+#[derive(Drop)]
+pub struct Compiled {
+    pub tree: Tree,
+    pub code: Code,
+}
+
+fn refused(kind: RefusalKind, at: Pos) -> CompileFault
+    ensures { result ≡ CompileFault.Refused (record { kind = kind; at = at }) }
+{
+    CompileFault::Refused(Refusal { kind, at })
+}
+
+fn tokens_of(alloc: Global, source: &[u8]) -> Result<Tokens, CompileFault>
+    requires { length source.now ≤ 2 ^ 20 }
+    ensures tokens { IfOk result (λ tokens. AreTokens source.now tokens) }
+    ensures few { IfOk result (λ tokens. length tokens ≤ 2 ^ 20) }
+    ensures refused { IfErr result (spec.IsRefused source.now) }
+{
+    match lex(alloc, source) {
+        Ok(tokens) => Ok(tokens),
+        Err(LexFault::NoMemory) => Err(CompileFault::NoMemory),
+        Err(LexFault::At(pos)) => Err(refused(RefusalKind::Lex, pos)),
+    }
+}
+
+fn raw_of(alloc: Global, source: &[u8], tokens: &Tokens) -> Result<Raw, CompileFault>
+    requires short { length source.now ≤ 2 ^ 20 }
+    requires few { length tokens.now ≤ 2 ^ 20 }
+    requires tokens { AreTokens source.now tokens.now }
+    ensures parsed { IfOk result (spec.IsParsed source.now tokens.now) }
+    ensures refused { IfErr result (spec.IsRefused source.now) }
+{
+    match parse(alloc, source, tokens) {
+        Ok(raw) => Ok(raw),
+        Err(ParseFault::NoMemory) => Err(CompileFault::NoMemory),
+        Err(ParseFault::Syntax(pos)) => Err(refused(RefusalKind::Syntax, pos)),
+        Err(ParseFault::Depth(pos)) => Err(refused(RefusalKind::Depth, pos)),
+    }
+}
+
+fn typed(alloc: Global, source: &[u8], tokens: &Tokens, raw: Raw) -> Result<Tree, CompileFault>
+    requires short { length source.now ≤ 2 ^ 20 }
+    requires few { length tokens.now ≤ 2 ^ 20 }
+    requires parsed { spec.IsParsed source.now tokens.now raw }
+    ensures tree { IfOk result (IsTree source.now tokens.now raw) }
+    ensures refused { IfErr result (spec.IsRefused source.now) }
+{
+    match check(alloc, source, tokens, raw) {
+        Ok(tree) => Ok(tree),
+        Err(CheckFault::NoMemory) => Err(CompileFault::NoMemory),
+        Err(CheckFault::Name(pos)) => Err(refused(RefusalKind::Name, pos)),
+        Err(CheckFault::Typing(pos)) => Err(refused(RefusalKind::Typing, pos)),
+        Err(CheckFault::Count(pos)) => Err(refused(RefusalKind::Count, pos)),
+    }
+}
+
+/// The typed tree of a source.
+fn tree_of(alloc: Global, source: &[u8]) -> Result<Tree, CompileFault>
+    requires { length source.now ≤ 2 ^ 20 }
+    ensures tree { IfOk result (spec.IsTreeOf source.now) }
+    ensures refused { IfErr result (spec.IsRefused source.now) }
+{
+    let tokens = tokens_of(alloc, source)?;
+    let raw = raw_of(alloc, source, &tokens)?;
+    typed(alloc, source, &tokens, raw)
+}
+
+/// The code of a source, or the first reason why there is none: of the kinds in their order, each at its place.
+pub fn compile(alloc: Global, source: &[u8]) -> Result<Compiled, CompileFault>
+    requires { length source.now ≤ 2 ^ 20 }
+    ensures compiled { IfOk result (spec.IsCompiled source.now) }
+    ensures refused { IfErr result (spec.IsRefused source.now) }
+{
+    let tree = tree_of(alloc, source)?;
+    if let Some(at) = unbuilt(&tree) {
+        let pos = position(source, at.start as usize);
+        return Err(refused(RefusalKind::Unbuilt, pos));
+    }
+    let code = code_of(alloc, &tree)?;
+    Ok(Compiled { tree, code })
+}
