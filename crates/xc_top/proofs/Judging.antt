@@ -18,7 +18,7 @@ use Rattle.xc_top.specs.declared.status.Bad.TheVariants.{Line}
 use Rattle.xc_top.specs.declared.status.Status.{Status}
 use Rattle.xc_top.specs.declared.status.Status.TheVariants.{BadSchedule}
 use Rattle.xc_top.specs.Lines.{line_of}
-use Rattle.xc_top.specs.Judges.{StandsFor, Chooses, IsBadSchedule, status_of, with_choices, Judges, NoSchedule, WasRun}
+use Rattle.xc_top.specs.Judges.{StandsFor, Chooses, IsBadSchedule, status_of, with_choices, Executes, NoSchedule, WasRun, Judges, Executed}
 use Rattle.xc_top.proofs.Sources.{sourced}
 
 pub ok_map : {A E : Type 0} {P Q : A → Type 0} (r : Result A E) → ((x : A) → P x → Q x) → IfOk r P → IfOk r Q
@@ -44,42 +44,40 @@ chosen c schedule file text r e f h =
     subst (λ x. MatchResult r (λ s. Chooses x schedule s) (λ bad. (name : List ℕ) × (k : ℕ) × (bad ≡ Line name k) × IsBadSchedule x schedule name k)) (sym e)
     (subst (λ x. MatchResult r (λ s. Chooses (choice.Schedule file) x s) (λ bad. (name : List ℕ) × (k : ℕ) × (bad ≡ Line name k) × IsBadSchedule (choice.Schedule file) x name k)) (sym f) (spelled file text r h))
 
-pub was_run : (c : Command) (text : List ℕ) (schedule : Option (List ℕ)) (o : Options) (code : Code) (from : Source) (why : Ending) (steps : ℕ) (printed : List ℕ) (choices : Option (List ℕ)) (named : List ℕ) (streams : ℕ) (status : Status) (out err : List ℕ)
-    → o ≡ options_in c → StandsFor c text code → Chooses o.choice schedule from → Plays from code o why steps printed named → IsRecord o.recorded named choices
+pub was_run : (o : Options) (code : Code) (schedule : Option (List ℕ)) (from : Source) (why : Ending) (steps : ℕ) (printed : List ℕ) (choices : Option (List ℕ)) (named : List ℕ) (streams : ℕ) (status : Status) (out err : List ℕ)
+    → Chooses o.choice schedule from → Plays from code o why steps printed named → IsRecord o.recorded named choices
     → streams ≡ o.streams → 1 ≤ streams → streams ≤ 1024
     → status ≡ status_of why (record { steps = steps; streams = streams }) → out ≡ printed → err ≡ with_choices (line_of (status_of why (record { steps = steps; streams = streams }))) choices
-    → Judges c text schedule status out err
-was_run c text schedule o code from why steps printed choices named streams status out err options stands chooses plays recorded same some few is_status is_out says =
-    let count : streams ≡ (options_in c).streams = same ∙ ap (λ (x : Options). x.streams) options in
-    let P : Options → Type 0 = λ x. Plays from code x why steps out named in
-    let here = subst P options (subst (λ t. Plays from code o why steps t named) (sym is_out) plays) in
+    → Executes o code schedule status out err
+was_run o code schedule from why steps printed choices named streams status out err chooses plays recorded same some few is_status is_out says =
     WasRun (record {
-      code = code;
-      stands = stands;
       source = from;
-      chooses = subst (λ (x : Options). Chooses x.choice schedule from) options chooses;
+      chooses = chooses;
+      some = subst (λ n. 1 ≤ n) same some;
+      few = subst (λ n. n ≤ 1024) same few;
       why = why;
       steps = steps;
       named = named;
-      plays = here;
-      sourced = sourced c text from code (options_in c) why steps out named stands (subst (λ n. 1 ≤ n) count some) (subst (λ n. n ≤ 1024) count few) here;
-      is_status = is_status ∙ ap (λ n. status_of why (record { steps = steps; streams = n })) count;
+      plays = subst (λ t. Plays from code o why steps t named) (sym is_out) plays;
+      is_status = is_status ∙ ap (λ n. status_of why (record { steps = steps; streams = n })) same;
       choices = choices;
-      is_record = subst (λ (x : Options). IsRecord x.recorded named choices) options recorded;
+      is_record = recorded;
       says = says ∙ ap (λ s. with_choices (line_of s) choices) (sym is_status);
     })
 
-pub no_schedule : (c : Command) (text : List ℕ) (schedule : Option (List ℕ)) (o : Options) (code : Code) (bad : Bad) (status : Status) (out err : List ℕ)
-    → o ≡ options_in c → StandsFor c text code → (name : List ℕ) × (k : ℕ) × (bad ≡ Line name k) × IsBadSchedule o.choice schedule name k
-    → status ≡ BadSchedule bad → out ≡ [] → err ≡ line_of (BadSchedule bad) → Judges c text schedule status out err
-no_schedule c text schedule o code bad status out err options stands h is_status silent says =
+pub no_schedule : (o : Options) (code : Code) (schedule : Option (List ℕ)) (bad : Bad) (status : Status) (out err : List ℕ)
+    → (name : List ℕ) × (k : ℕ) × (bad ≡ Line name k) × IsBadSchedule o.choice schedule name k
+    → status ≡ BadSchedule bad → out ≡ [] → err ≡ line_of (BadSchedule bad) → Executes o code schedule status out err
+no_schedule o code schedule bad status out err h is_status silent says =
     NoSchedule (record {
-      code = code;
-      stands = stands;
       name = h.0;
       line = h.1;
-      why = subst (λ (x : Options). IsBadSchedule x.choice schedule h.0 h.1) options h.3;
+      why = h.3;
       is_status = is_status ∙ ap BadSchedule h.2;
       silent = silent;
       says = says ∙ ap line_of (sym is_status);
     })
+
+pub was_executed : (c : Command) (text : List ℕ) (schedule : Option (List ℕ)) (o : Options) (code : Code) (status : Status) (out err : List ℕ)
+    → options_in c ≡ Some o → StandsFor c text code → Executes o code schedule status out err → Judges c text schedule status out err
+was_executed c text schedule o code status out err options stands h = Executed o options code stands h (sourced c text o code schedule status out err stands h)

@@ -3,10 +3,10 @@ use Rattle.std.specs.Prelude.{◌≡◌, ◌⊎◌, ◌<◌, ◌≤◌, ◌+◌,
 use Rattle.xc_edge.specs.Counts.{Rises}
 use Rattle.xc_words.specs.declared.command.Choice.{Choice}
 use Rattle.xc_words.specs.declared.command.Command.{Command}
-use Rattle.xc_words.specs.declared.command.Command.TheVariants.{Run, Exec}
-use Rattle.xc_words.specs.Commands.{file_in, options_in, schedule_in}
+use Rattle.xc_words.specs.declared.command.Command.TheVariants.{Run, Exec, Compile}
+use Rattle.xc_words.specs.Commands.{file_in, schedule_of}
 use Rattle.xc_top.specs.declared.status.Status.{Status}
-use Rattle.xc_top.specs.declared.status.Status.TheVariants.{Ok, ReadFault, WriteFault, Usage, Long, Refused, Trap, Unfinished, Stuck, BadSchedule, WordsFull, OutFull, NoMemory}
+use Rattle.xc_top.specs.declared.status.Status.TheVariants.{Ok, Compiled, ReadFault, WriteFault, Usage, Long, Refused, Trap, Unfinished, Stuck, BadSchedule, WordsFull, OutFull, NoMemory}
 use Rattle.xc_top.specs.Lines.{line_of}
 use Rattle.xc_top.specs.Seen.{ShelfSeen, SinkSeen, Told, Untouched, Whole, Part, Puts}
 use Rattle.xc_top.specs.Judges.{Judges}
@@ -21,11 +21,12 @@ text_limit = 2 ^ 26
 
 abbrev pub limit_in : Command → ℕ
 limit_in (Run options file) = source_limit
+limit_in (Compile file) = source_limit
 limit_in (Exec options file) = text_limit
 
 -- the command names this file, which may have so many bytes
 abbrev pub Names : Command → List ℕ → ℕ → Type 0
-Names c name limit = ((name ≡ file_in c) × (limit ≡ limit_in c)) ⊎ ((schedule_in (options_in c).choice ≡ Some name) × (limit ≡ text_limit))
+Names c name limit = ((name ≡ file_in c) × (limit ≡ limit_in c)) ⊎ ((schedule_of c ≡ Some name) × (limit ≡ text_limit))
 
 -- ---- what the fetches gave
 
@@ -56,16 +57,20 @@ pub data Cause (command : Option Command) (shelf : ShelfSeen) (status : Status) 
   NoCommand : command ≡ None → status ≡ Usage → out ≡ [] → err ≡ line_of status → Cause command shelf status out err
   NotRead : (c : Command) → command ≡ Some c → IsUnread c shelf status → out ≡ [] → err ≡ line_of status → Cause command shelf status out err
   Judged : (c : Command) → command ≡ Some c → (text : List ℕ) → Has shelf (file_in c) (limit_in c) text
-      → (schedule : Option (List ℕ)) → HasSchedule shelf (schedule_in (options_in c).choice) schedule
+      → (schedule : Option (List ℕ)) → HasSchedule shelf (schedule_of c) schedule
       → Judges c text schedule status out err → Cause command shelf status out err
 
 -- ---- answers
 
--- Out is written before err, and after a failed put nothing more goes to that sink. Where the run ended, a failed put is the
--- answer, and where it was on out, nothing goes to err; any other status stands.
+-- the work is done: out is written before err, a failed put is the answer, and after it nothing more is put
+abbrev pub Finishes : Status → List ℕ → List ℕ → SinkSeen → SinkSeen → Status → Type 0
+Finishes done o e out err status =
+    ((status ≡ done) × Whole o out × Whole e err) ⊎ ((status ≡ WriteFault) × ((Part o out × Untouched err) ⊎ (Whole o out × Part e err)))
+
+-- where a run ended or assembly is written the work is done; any other status stands, and after a failed put nothing more goes to that sink
 abbrev pub Writes : Status → List ℕ → List ℕ → SinkSeen → SinkSeen → Status → Type 0
-Writes (Ok n) o e out err status =
-    ((status ≡ Ok n) × Whole o out × Whole e err) ⊎ ((status ≡ WriteFault) × ((Part o out × Untouched err) ⊎ (Whole o out × Part e err)))
+Writes (Ok n) o e out err status = Finishes (Ok n) o e out err status
+Writes Compiled o e out err status = Finishes Compiled o e out err status
 Writes planned o e out err status = (status ≡ planned) × Puts o out × Puts e err
 
 -- What an answer tells: why it came and what was written; want of memory comes before the first put.

@@ -1,10 +1,11 @@
 -- The codes that the program ends with.
 use Rattle.std.specs.Prelude.{ℕ}
 use Rattle.xc_top.specs.declared.status.Status.{Status}
-use Rattle.xc_top.specs.declared.status.Status.TheVariants.{Ok, ReadFault, WriteFault, Usage, Long, Refused, Trap, Unfinished, Stuck, BadSchedule, WordsFull, OutFull, NoMemory}
+use Rattle.xc_top.specs.declared.status.Status.TheVariants.{Ok, Compiled, ReadFault, WriteFault, Usage, Long, Refused, Trap, Unfinished, Stuck, BadSchedule, WordsFull, OutFull, NoMemory}
 
 abbrev pub code_of : Status → ℕ
 code_of (Ok n) = 0
+code_of Compiled = 0
 code_of (ReadFault name) = 1
 code_of WriteFault = 1
 code_of Usage = 2

@@ -1,18 +1,20 @@
 -- What a command answers to the texts of its files.
 use Rattle.std.specs.Prelude.{◌≡◌, ◌≤◌, ◌^◌, ℕ, List, [], ◌++◌, length, Option, Some, None}
 use Rattle.xc_action.specs.World.{World, Action}
-use Rattle.xc_meaning.specs.Programs.{Program}
-use Rattle.xc_meaning.specs.Source.{SourceRun, HasEnded}
+use Rattle.xc_span.specs.declared.Pos.{Pos}
+use Rattle.xc_tree.specs.declared.tree.Tree.{Tree}
+use Rattle.xc_thread.specs.Terms.{Program, program_of}
+use Rattle.xc_thread.specs.Source.{SourceRun, HasEnded}
 use Rattle.xc_isa.specs.declared.code.Code.{Code}
-use Rattle.xc_gen.specs.Faithful.{Faithful, Ends, GoesOn}
-use Rattle.xc_narrow.specs.Grammar.{narrow}
+use Rattle.xc_driver.specs.Compiles.{IsTreeOf, IsCodeOf, IsRefusal}
 use Rattle.xc_line.specs.Grammar.{IsFirstBad}
 use Rattle.xc_asm.specs.Texts.{contents_of, Spells as SpellsCode, IsAssembly}
 use Rattle.xc_sched.specs.Runs.{Spells as SpellsSteps, IsSchedule}
 use Rattle.xc_words.specs.declared.command.Choice.{Choice}
 use Rattle.xc_words.specs.declared.command.Choice.TheVariants as choice
+use Rattle.xc_words.specs.declared.command.Options.{Options}
 use Rattle.xc_words.specs.declared.command.Command.{Command}
-use Rattle.xc_words.specs.declared.command.Command.TheVariants.{Run, Exec}
+use Rattle.xc_words.specs.declared.command.Command.TheVariants.{Run, Exec, Compile}
 use Rattle.xc_words.specs.Commands.{file_in, options_in}
 use Rattle.xc_exec.specs.declared.source.Source.{Source}
 use Rattle.xc_exec.specs.declared.source.Source.TheVariants as source
@@ -20,23 +22,38 @@ use Rattle.xc_exec.specs.declared.outcome.Ending.{Ending}
 use Rattle.xc_exec.specs.declared.outcome.Ending.TheVariants as ending
 use Rattle.xc_exec.specs.Plays.{Plays, IsRecord}
 use Rattle.xc_top.specs.declared.status.FileKind.{FileKind}
-use Rattle.xc_top.specs.declared.status.FileKind.TheVariants.{Asm, Unbuilt}
+use Rattle.xc_top.specs.declared.status.FileKind.TheVariants.{Asm, Source as InSource}
 use Rattle.xc_top.specs.declared.status.Numbers.{Numbers}
 use Rattle.xc_top.specs.declared.status.Bad.TheVariants.{Line, Entry}
 use Rattle.xc_top.specs.declared.status.Status.{Status}
-use Rattle.xc_top.specs.declared.status.Status.TheVariants.{Ok, Refused, Trap, Unfinished, Stuck, BadSchedule, WordsFull, OutFull}
+use Rattle.xc_top.specs.declared.status.Status.TheVariants.{Ok, Compiled, Refused, Trap, Unfinished, Stuck, BadSchedule, WordsFull, OutFull}
 use Rattle.xc_top.specs.Lines.{line_of}
 
--- The code that a file's text stands for: the assembly's, or that of a narrow text's program, which is faithful to it, ends in
--- time and is never stuck.
+-- the code of a source's typed tree, which is faithful to its program, ends in time and is never stuck
+abbrev pub IsSourceCode : List ℕ → Code → Type 0
+IsSourceCode text code = (tree : Tree) × IsTreeOf text tree × IsCodeOf tree code
+
+-- the code that a file's text stands for: a source's, or the assembly's
 abbrev pub StandsFor : Command → List ℕ → Code → Type 0
-StandsFor (Run options file) text code = (p : Program) × (narrow text ≡ Some p) × Faithful p code × Ends p code × GoesOn code
+StandsFor (Run options file) text code = IsSourceCode text code
+StandsFor (Compile file) text code = IsSourceCode text code
 StandsFor (Exec options file) text code = SpellsCode text (contents_of code)
 
--- why a file's text stands for no code, and at which line
-abbrev pub IsRefused : Command → List ℕ → FileKind → ℕ → Type 0
-IsRefused (Run options file) text kind line = (narrow text ≡ None) × (kind ≡ Unbuilt) × (line ≡ 1)
-IsRefused (Exec options file) text kind line = IsFirstBad IsAssembly text line × (kind ≡ Asm)
+-- why a source has no code, and where
+abbrev pub IsRefusedSource : List ℕ → FileKind → Pos → Type 0
+IsRefusedSource text (InSource kind) at = IsRefusal text kind at
+IsRefusedSource text Asm at = ⊥
+
+-- why a text is no assembly: its first bad line
+abbrev pub IsRefusedCode : List ℕ → FileKind → Pos → Type 0
+IsRefusedCode text Asm at = IsFirstBad IsAssembly text at.line × (at.col ≡ 1)
+IsRefusedCode text (InSource kind) at = ⊥
+
+-- why a file's text stands for no code, and where
+abbrev pub IsRefused : Command → List ℕ → FileKind → Pos → Type 0
+IsRefused (Run options file) text kind at = IsRefusedSource text kind at
+IsRefused (Compile file) text kind at = IsRefusedSource text kind at
+IsRefused (Exec options file) text kind at = IsRefusedCode text kind at
 
 -- what chooses the streams, the schedule's text being this
 abbrev pub Chooses : Choice → Option (List ℕ) → Source → Type 0
@@ -51,6 +68,11 @@ IsGiven choice.Turns schedule = Unit {0}
 IsGiven (choice.Seed n) schedule = Unit {0}
 IsGiven (choice.Schedule file) None = ⊥
 IsGiven (choice.Schedule file) (Some text) = length text ≤ 2 ^ 26
+
+-- so it is where the options name one
+abbrev pub IsGivenTo : Option Options → Option (List ℕ) → Type 0
+IsGivenTo None schedule = Unit {0}
+IsGivenTo (Some o) schedule = IsGiven o.choice schedule
 
 -- line k is the first bad one of a schedule's text
 abbrev pub IsBadSchedule : Choice → Option (List ℕ) → List ℕ → ℕ → Type 0
@@ -79,50 +101,61 @@ with_choices line (Some choices) = line ++ choices
 abbrev pub IsSourceOutput : Program → List ℕ → Type 0
 IsSourceOutput p out = (actions : List (ℕ × Action)) × (w : World) × SourceRun p actions w × HasEnded p actions × (w.out ≡ out)
 
--- where all streams of a compiled program have ended, its output is that of a source run
-abbrev pub IsSourced : Command → List ℕ → Ending → List ℕ → Type 0
-IsSourced (Run options file) text ending.Ended out = (p : Program) × (narrow text ≡ Some p) × IsSourceOutput p out
+-- where a compiled program was run to its end, its output is that of a source run
+abbrev pub IsSourced : Command → List ℕ → Status → List ℕ → Type 0
+IsSourced (Run options file) text (Ok n) out = (tree : Tree) × IsTreeOf text tree × IsSourceOutput (program_of tree) out
 IsSourced (Run options file) text _ out = Unit {0}
-IsSourced (Exec options file) text why out = Unit {0}
+IsSourced (Exec options file) text status out = Unit {0}
+IsSourced (Compile file) text status out = Unit {0}
 
--- The code was run: what goes to out and to err.
-pub record IsRun (c : Command) (text : List ℕ) (schedule : Option (List ℕ)) (status : Status) (out err : List ℕ) : Type 0 where
-  pub code : Code
-  pub stands : StandsFor c text code
+-- The code was run as these options say: what goes to out and to err.
+pub record IsRun (o : Options) (code : Code) (schedule : Option (List ℕ)) (status : Status) (out err : List ℕ) : Type 0 where
   pub source : Source
-  pub chooses : Chooses (options_in c).choice schedule source
+  pub chooses : Chooses o.choice schedule source
+  -- on 1 to 1,024 streams
+  pub some : 1 ≤ o.streams
+  pub few : o.streams ≤ 1024
   pub why : Ending
   pub steps : ℕ
   pub named : List ℕ
-  pub plays : Plays source code (options_in c) why steps out named
-  pub sourced : IsSourced c text why out
-  pub is_status : status ≡ status_of why (record { steps = steps; streams = (options_in c).streams })
+  pub plays : Plays source code o why steps out named
+  pub is_status : status ≡ status_of why (record { steps = steps; streams = o.streams })
   pub choices : Option (List ℕ)
-  pub is_record : IsRecord (options_in c).recorded named choices
+  pub is_record : IsRecord o.recorded named choices
   pub says : err ≡ with_choices (line_of status) choices
 
--- the text stands for no code
-pub record IsNoCode (c : Command) (text : List ℕ) (status : Status) (out err : List ℕ) : Type 0 where
-  pub kind : FileKind
-  pub line : ℕ
-  pub why : IsRefused c text kind line
-  pub is_status : status ≡ Refused (file_in c) kind (record { line = line; col = 1 })
-  pub silent : out ≡ []
-  pub says : err ≡ line_of status
-
--- the text stands for code, and the schedule's text is none
-pub record IsNoSchedule (c : Command) (text : List ℕ) (schedule : Option (List ℕ)) (status : Status) (out err : List ℕ) : Type 0 where
-  pub code : Code
-  pub stands : StandsFor c text code
+-- the schedule's text is none
+pub record IsNoSchedule (o : Options) (schedule : Option (List ℕ)) (status : Status) (out err : List ℕ) : Type 0 where
   pub name : List ℕ
   pub line : ℕ
-  pub why : IsBadSchedule (options_in c).choice schedule name line
+  pub why : IsBadSchedule o.choice schedule name line
   pub is_status : status ≡ BadSchedule (Line name line)
   pub silent : out ≡ []
   pub says : err ≡ line_of status
 
--- What the texts decide, in the order of the cases.
+-- what comes of code that is run as these options say
+pub data Executes (o : Options) (code : Code) (schedule : Option (List ℕ)) (status : Status) (out err : List ℕ) : Type 0 where
+  NoSchedule : IsNoSchedule o schedule status out err → Executes o code schedule status out err
+  WasRun : IsRun o code schedule status out err → Executes o code schedule status out err
+
+-- the code's assembly goes to out
+pub record IsWritten (code : Code) (status : Status) (out err : List ℕ) : Type 0 where
+  pub spells : SpellsCode out (contents_of code)
+  pub is_status : status ≡ Compiled
+  pub silent : err ≡ []
+
+-- the text stands for no code
+pub record IsNoCode (c : Command) (text : List ℕ) (status : Status) (out err : List ℕ) : Type 0 where
+  pub kind : FileKind
+  pub at : Pos
+  pub why : IsRefused c text kind at
+  pub is_status : status ≡ Refused (file_in c) kind at
+  pub silent : out ≡ []
+  pub says : err ≡ line_of status
+
+-- What the texts decide.
 pub data Judges (c : Command) (text : List ℕ) (schedule : Option (List ℕ)) (status : Status) (out err : List ℕ) : Type 0 where
   NoCode : IsNoCode c text status out err → Judges c text schedule status out err
-  NoSchedule : IsNoSchedule c text schedule status out err → Judges c text schedule status out err
-  WasRun : IsRun c text schedule status out err → Judges c text schedule status out err
+  Executed : (o : Options) → options_in c ≡ Some o → (code : Code) → StandsFor c text code → Executes o code schedule status out err
+      → IsSourced c text status out → Judges c text schedule status out err
+  Written : options_in c ≡ None → (code : Code) → StandsFor c text code → IsWritten code status out err → Judges c text schedule status out err

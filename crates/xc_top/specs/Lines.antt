@@ -3,16 +3,27 @@ use Rattle.std.specs.Prelude.{ℕ, List, [], ◌++◌, codes, decimal}
 use Rattle.xc_isa.specs.declared.instr.TrapKind.{TrapKind}
 use Rattle.xc_isa.specs.declared.instr.TrapKind.TheVariants.{Divide, Index, Range, Objects, Place, Size, Format, Code, Jump}
 use Rattle.xc_top.specs.declared.status.FileKind.{FileKind}
-use Rattle.xc_top.specs.declared.status.FileKind.TheVariants.{Asm, Unbuilt}
+use Rattle.xc_top.specs.declared.status.FileKind.TheVariants.{Asm, Source as InSource}
+use Rattle.xc_driver.specs.declared.fault.RefusalKind.{RefusalKind}
+use Rattle.xc_driver.specs.declared.fault.RefusalKind.TheVariants.{Lex, Syntax, Depth, Name, Typing, Count, Unbuilt}
 use Rattle.xc_top.specs.declared.status.Numbers.{Numbers}
 use Rattle.xc_top.specs.declared.status.Bad.{Bad}
 use Rattle.xc_top.specs.declared.status.Bad.TheVariants.{Line, Entry}
 use Rattle.xc_top.specs.declared.status.Status.{Status}
-use Rattle.xc_top.specs.declared.status.Status.TheVariants.{Ok, ReadFault, WriteFault, Usage, Long, Refused, Trap, Unfinished, Stuck, BadSchedule, WordsFull, OutFull, NoMemory}
+use Rattle.xc_top.specs.declared.status.Status.TheVariants.{Ok, Compiled, ReadFault, WriteFault, Usage, Long, Refused, Trap, Unfinished, Stuck, BadSchedule, WordsFull, OutFull, NoMemory}
+
+abbrev pub refusal_text : RefusalKind → List ℕ
+refusal_text Lex = codes "lex"
+refusal_text Syntax = codes "syntax"
+refusal_text Depth = codes "depth"
+refusal_text Name = codes "name"
+refusal_text Typing = codes "type"
+refusal_text Count = codes "count"
+refusal_text Unbuilt = codes "unbuilt"
 
 abbrev pub kind_text : FileKind → List ℕ
 kind_text Asm = codes "asm"
-kind_text Unbuilt = codes "unbuilt"
+kind_text (InSource kind) = refusal_text kind
 
 abbrev pub trap_text : TrapKind → List ℕ
 trap_text Divide = codes "divide"
@@ -40,9 +51,10 @@ abbrev pub bad_line_of : Bad → List ℕ
 bad_line_of (Line name line) = place_text name line 1 (codes "schedule")
 bad_line_of (Entry n) = number_text (codes "badchoice step=") n.steps ++ numbers_text n
 
--- the line of a status, with its line feed; a failed write has none
+-- the line of a status, with its line feed; assembly that was written has none, nor has a failed write
 abbrev pub line_of : Status → List ℕ
 line_of (Ok n) = codes "ended" ++ numbers_text n
+line_of Compiled = []
 line_of (ReadFault name) = codes "xmtc: cannot read " ++ name ++ codes "\n"
 line_of WriteFault = []
 line_of Usage = codes "usage: xmtc COMMAND [OPTIONS] FILE\n"

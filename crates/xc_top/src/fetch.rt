@@ -2,14 +2,14 @@
 
 ghost use Rattle.std.specs.Prelude.{◌≡◌, ◌≤◌, ◌<◌, ◌^◌, ℕ, List, Option, IsSome, OnOk, IfOk, MatchResult};
 ghost use Rattle.std.specs.Option.{option_map};
-ghost use Rattle.xc_words.specs.Commands.{file_in, options_in, schedule_in};
+ghost use Rattle.xc_words.specs.Commands.{file_in, schedule_of};
 ghost use Rattle.xc_top.specs.Seen.{ShelfSeen};
 ghost use Rattle.xc_top.specs.Answers.{Has, HasSchedule, IsUnread, IsUnreadAt, limit_in};
 
 use crate::status::Status;
 use std::alloc::{AllocError, Global};
 use xc_edge::{Fetch, Shelf};
-use xc_words::{Choice, Command, Name};
+use xc_words::{Command, Name};
 
 /// No source is longer.
 const SOURCE_LIMIT: usize = 1 << 20;
@@ -76,30 +76,30 @@ fn limit(command: &Command) -> usize
     ensures { result ≡ limit_in command.now }
 {
     match command {
-        Command::Run { .. } => SOURCE_LIMIT,
+        Command::Run { .. } | Command::Compile { .. } => SOURCE_LIMIT,
         Command::Exec { .. } => TEXT_LIMIT,
     }
 }
 
-/// The text of a schedule, where one is named.
+/// The text of a command's schedule, where one is named.
 fn fetch_schedule<F: Shelf>(
     alloc: Global,
-    choice: &Choice,
+    command: &Command,
     shelf: &mut F,
 ) -> Result<Option<Vec<u8>>, Unread>
-    ensures text { IfOk result (λ t. HasSchedule (record { files = F.files shelf.old; faults_before = F.faults shelf.old; faults_after = F.faults shelf.new; taken_before = F.taken shelf.old; taken_after = F.taken shelf.new }) (schedule_in choice.now) (option_map (λ v. v.items) t)) }
-    ensures unread { (status : Status) → result ≡ Err (Unread.Said status) → (name : List ℕ) × (schedule_in choice.now ≡ Some name) × IsUnreadAt name (2 ^ 26) (record { files = F.files shelf.old; faults_before = F.faults shelf.old; faults_after = F.faults shelf.new; taken_before = F.taken shelf.old; taken_after = F.taken shelf.new }) status }
+    ensures text { IfOk result (λ t. HasSchedule (record { files = F.files shelf.old; faults_before = F.faults shelf.old; faults_after = F.faults shelf.new; taken_before = F.taken shelf.old; taken_after = F.taken shelf.new }) (schedule_of command.now) (option_map (λ v. v.items) t)) }
+    ensures unread { (status : Status) → result ≡ Err (Unread.Said status) → (name : List ℕ) × (schedule_of command.now ≡ Some name) × IsUnreadAt name (2 ^ 26) (record { files = F.files shelf.old; faults_before = F.faults shelf.old; faults_after = F.faults shelf.new; taken_before = F.taken shelf.old; taken_after = F.taken shelf.new }) status }
     ensures quiet { OnOk result (IsSome (F.files shelf.old) → (other : List ℕ) → F.faults shelf.new other ≡ F.faults shelf.old other) }
     ensures files_stay { F.files shelf.new ≡ F.files shelf.old }
     ensures faults_kept { (other : List ℕ) → F.faults shelf.old other ≤ F.faults shelf.new other }
     ensures taken_kept { F.taken shelf.old ≤ F.taken shelf.new }
 {
-    match choice {
-        Choice::Schedule(name) => {
+    match command.schedule() {
+        Some(name) => {
             let text = fetch_text(alloc, name, TEXT_LIMIT, shelf)?;
             Ok(Some(text))
         }
-        Choice::Turns | Choice::Seed(_) => Ok(None),
+        None => Ok(None),
     }
 }
 
@@ -110,14 +110,14 @@ pub(crate) fn fetch_texts<F: Shelf>(
     shelf: &mut F,
 ) -> Result<Texts, Unread>
     ensures text { IfOk result (λ t. Has (record { files = F.files shelf.old; faults_before = F.faults shelf.old; faults_after = F.faults shelf.new; taken_before = F.taken shelf.old; taken_after = F.taken shelf.new }) (file_in command.now) (limit_in command.now) t.text.items) }
-    ensures schedule { IfOk result (λ t. HasSchedule (record { files = F.files shelf.old; faults_before = F.faults shelf.old; faults_after = F.faults shelf.new; taken_before = F.taken shelf.old; taken_after = F.taken shelf.new }) (schedule_in (options_in command.now).choice) (option_map (λ v. v.items) t.schedule)) }
+    ensures schedule { IfOk result (λ t. HasSchedule (record { files = F.files shelf.old; faults_before = F.faults shelf.old; faults_after = F.faults shelf.new; taken_before = F.taken shelf.old; taken_after = F.taken shelf.new }) (schedule_of command.now) (option_map (λ v. v.items) t.schedule)) }
     ensures unread { (status : Status) → result ≡ Err (Unread.Said status) → IsUnread command.now (record { files = F.files shelf.old; faults_before = F.faults shelf.old; faults_after = F.faults shelf.new; taken_before = F.taken shelf.old; taken_after = F.taken shelf.new }) status }
 {
     let text = match fetch_text(alloc, command.file(), limit(command), shelf) {
         Ok(text) => text,
         Err(unread) => return Err(unread),
     };
-    match fetch_schedule(alloc, &command.options().choice, shelf) {
+    match fetch_schedule(alloc, command, shelf) {
         Ok(schedule) => Ok(Texts { text, schedule }),
         Err(unread) => Err(unread),
     }

@@ -3,25 +3,24 @@
 ghost use Rattle.std.specs.Prelude.{◌≡◌, ◌≤◌, ◌^◌, ℕ, List, [], Some, None, length, IfOk, MatchResult};
 ghost use Rattle.std.specs.Option.{option_map};
 ghost use Rattle.xc_words.specs.Commands.{options_in};
-ghost use Rattle.xc_top.specs.Judges.{StandsFor, IsRefused, Chooses, IsBadSchedule, IsGiven, status_of, with_choices, Judges};
+ghost use Rattle.xc_top.specs.Judges.{IsSourceCode, IsRefusedSource, IsRefusedCode, StandsFor, IsRefused, Chooses, IsBadSchedule, IsGiven, IsGivenTo, status_of, with_choices, Executes, IsWritten, Judges};
 ghost use Rattle.xc_top.specs.Lines.{line_of};
-ghost use Rattle.xc_asm.specs.Texts.{contents_of, Spells, IsAssembly};
+ghost use Rattle.xc_top.specs.Answers.{limit_in};
+ghost use Rattle.xc_asm.specs.Texts.{contents_of, Spells};
 ghost use Rattle.xc_line.specs.Grammar.{IsFirstBad};
 ghost use Rattle.xc_sched.specs.Runs.{Spells as SpellsSteps, IsSchedule};
-ghost use Rattle.xc_narrow.specs.Grammar.{narrow};
-ghost use Rattle.xc_meaning.specs.Programs.{Program};
-ghost use Rattle.xc_gen.specs.Faithful.{Faithful, Ends, GoesOn};
+ghost use Rattle.xc_span.specs.declared.Pos.{Pos};
 
 use crate::lines::line;
 use crate::status::{Bad, FileKind, Numbers, Status};
 use std::alloc::{AllocError, Global};
 use xc_asm::AsmFault;
+use xc_driver::{CompileFault, Compiled, compile};
 use xc_exec::{Ending, Outcome, Source, play};
-use xc_gen::code_of;
 use xc_isa::Code;
 use xc_sched::{SchedFault, read_schedule};
 use xc_span::Pos;
-use xc_words::{Choice, Command, Name};
+use xc_words::{Choice, Command, Name, Options};
 
 /// What there is to say and to write.
 #[derive(Drop)]
@@ -34,7 +33,7 @@ pub(crate) struct Plan {
 /// Why a text stands for no code.
 #[derive(Clone, Copy, Debug, PartialEq, Eq)]
 enum CodeFault {
-    Refused { kind: FileKind, line: u32 },
+    Refused { kind: FileKind, at: Pos },
     NoMemory,
 }
 
@@ -53,40 +52,42 @@ impl From<AllocError> for CodeFault {
 fn assembled(alloc: Global, text: &[u8]) -> Result<Code, CodeFault>
     requires { length text.now ≤ 2 ^ 26 }
     ensures { MatchResult result (λ code. Spells text.now (contents_of code))
-        (λ e. (kind : FileKind) → (k : ℕ) → e ≡ CodeFault.Refused kind k → IsFirstBad IsAssembly text.now k × (kind ≡ FileKind.Asm)) }
+        (λ e. (kind : FileKind) → (at : Pos) → e ≡ CodeFault.Refused kind at → IsRefusedCode text.now kind at) }
 {
     match xc_asm::read(alloc, text) {
         Ok(code) => Ok(code),
         Err(AsmFault::Line(line)) => Err(CodeFault::Refused {
             kind: FileKind::Asm,
-            line,
+            at: Pos { line, col: 1 },
         }),
         Err(AsmFault::NoMemory) => Err(CodeFault::NoMemory),
     }
 }
 
-/// The code of a narrow text.
+/// The code of a source.
 fn compiled(alloc: Global, text: &[u8]) -> Result<Code, CodeFault>
-    ensures { MatchResult result (λ code. (p : Program) × (narrow text.now ≡ Some p) × Faithful p code × Ends p code × GoesOn code)
-        (λ e. (kind : FileKind) → (k : ℕ) → e ≡ CodeFault.Refused kind k → (narrow text.now ≡ None) × (kind ≡ FileKind.Unbuilt) × (k ≡ 1)) }
+    requires { length text.now ≤ 2 ^ 20 }
+    ensures { MatchResult result (λ code. IsSourceCode text.now code)
+        (λ e. (kind : FileKind) → (at : Pos) → e ≡ CodeFault.Refused kind at → IsRefusedSource text.now kind at) }
 {
-    match xc_narrow::parse(alloc, text)? {
-        Some(program) => Ok(code_of(alloc, program)?),
-        None => Err(CodeFault::Refused {
-            kind: FileKind::Unbuilt,
-            line: 1,
+    match compile(alloc, text) {
+        Ok(Compiled { tree: _, code }) => Ok(code),
+        Err(CompileFault::Refused(refusal)) => Err(CodeFault::Refused {
+            kind: FileKind::Source(refusal.kind),
+            at: refusal.at,
         }),
+        Err(CompileFault::NoMemory) => Err(CodeFault::NoMemory),
     }
 }
 
 /// The code that a file's text stands for.
 fn code_in(alloc: Global, command: &Command, text: &[u8]) -> Result<Code, CodeFault>
-    requires { length text.now ≤ 2 ^ 26 }
+    requires { length text.now ≤ limit_in command.now }
     ensures { MatchResult result (λ code. StandsFor command.now text.now code)
-        (λ e. (kind : FileKind) → (k : ℕ) → e ≡ CodeFault.Refused kind k → IsRefused command.now text.now kind k) }
+        (λ e. (kind : FileKind) → (at : Pos) → e ≡ CodeFault.Refused kind at → IsRefused command.now text.now kind at) }
 {
     match command {
-        Command::Run { .. } => compiled(alloc, text),
+        Command::Run { .. } | Command::Compile { .. } => compiled(alloc, text),
         Command::Exec { .. } => assembled(alloc, text),
     }
 }
@@ -167,11 +168,10 @@ pub(crate) fn said(alloc: Global, status: Status) -> Result<Plan, AllocError>
     })
 }
 
-fn refused(alloc: Global, name: &Name, kind: FileKind, line: u32) -> Result<Plan, AllocError>
-    ensures { IfOk result (λ p. (p.status ≡ Status.Refused name.now kind (record { line = line; col = 1 })) × (p.out.items ≡ []) × (p.err.items ≡ line_of (Status.Refused name.now kind (record { line = line; col = 1 })))) }
+fn refused(alloc: Global, name: &Name, kind: FileKind, at: Pos) -> Result<Plan, AllocError>
+    ensures { IfOk result (λ p. (p.status ≡ Status.Refused name.now kind at) × (p.out.items ≡ []) × (p.err.items ≡ line_of (Status.Refused name.now kind at))) }
 {
     let name = Name::new(alloc, name.as_str())?;
-    let at = Pos { line, col: 1 };
     said(alloc, Status::Refused { name, kind, at })
 }
 
@@ -194,6 +194,37 @@ fn ran(alloc: Global, outcome: Outcome, streams: u32) -> Result<Plan, AllocError
     Ok(Plan { status, out, err })
 }
 
+/// What comes of code that is run as these options say.
+fn executed(
+    alloc: Global,
+    code: &Code,
+    options: &Options,
+    schedule: &Option<Vec<u8>>,
+) -> Result<Plan, AllocError>
+    requires { IsGiven options.now.choice (option_map (λ v. v.items) schedule.now) }
+    ensures { IfOk result (λ p. Executes options.now code.now (option_map (λ v. v.items) schedule.now) p.status p.out.items p.err.items) }
+{
+    match source_in(alloc, &options.choice, schedule)? {
+        Ok(source) => {
+            let outcome = play(alloc, code, options, source)?;
+            ran(alloc, outcome, options.streams.number() as u32)
+        }
+        Err(bad) => said(alloc, Status::BadSchedule(bad)),
+    }
+}
+
+/// The assembly of code.
+fn written(alloc: Global, code: &Code) -> Result<Plan, AllocError>
+    ensures { IfOk result (λ p. IsWritten code.now p.status p.out.items p.err.items) }
+{
+    let out = xc_asm::print(alloc, code)?;
+    Ok(Plan {
+        status: Status::Compiled,
+        out,
+        err: Vec::new(alloc),
+    })
+}
+
 /// What a command answers to the texts of its files: the file's, and that of a schedule where one is named.
 pub(crate) fn judge(
     alloc: Global,
@@ -201,23 +232,16 @@ pub(crate) fn judge(
     text: &[u8],
     schedule: &Option<Vec<u8>>,
 ) -> Result<Plan, AllocError>
-    requires short { length text.now ≤ 2 ^ 26 }
-    requires given { IsGiven (options_in command.now).choice (option_map (λ v. v.items) schedule.now) }
+    requires short { length text.now ≤ limit_in command.now }
+    requires given { IsGivenTo (options_in command.now) (option_map (λ v. v.items) schedule.now) }
     ensures { IfOk result (λ p. Judges command.now text.now (option_map (λ v. v.items) schedule.now) p.status p.out.items p.err.items) }
 {
-    let code = match code_in(alloc, command, text) {
-        Ok(code) => code,
-        Err(CodeFault::Refused { kind, line }) => {
-            return refused(alloc, command.file(), kind, line);
-        }
-        Err(CodeFault::NoMemory) => return Err(AllocError),
-    };
-    let options = command.options();
-    match source_in(alloc, &options.choice, schedule)? {
-        Ok(source) => {
-            let outcome = play(alloc, &code, options, source)?;
-            ran(alloc, outcome, options.streams.number() as u32)
-        }
-        Err(bad) => said(alloc, Status::BadSchedule(bad)),
+    match code_in(alloc, command, text) {
+        Ok(code) => match command.options() {
+            Some(options) => executed(alloc, &code, options, schedule),
+            None => written(alloc, &code),
+        },
+        Err(CodeFault::Refused { kind, at }) => refused(alloc, command.file(), kind, at),
+        Err(CodeFault::NoMemory) => Err(AllocError),
     }
 }

@@ -1,24 +1,25 @@
 //! The lines on err.
 
 ghost use Rattle.std.specs.Prelude.{◌≡◌, ◌++◌, string_bytes, IfOk, OnOk, codes, decimal};
-ghost use Rattle.xc_top.specs.Lines.{kind_text as kind_text_of, trap_text as trap_text_of, number_text, numbers_text, place_text, bad_line_of, line_of};
+ghost use Rattle.xc_top.specs.Lines.{kind_text as kind_text_of, refusal_text as refusal_text_of, trap_text as trap_text_of, number_text, numbers_text, place_text, bad_line_of, line_of};
 
 use crate::status::{Bad, FileKind, Numbers, Status};
 use itoa::Buffer;
 use std::alloc::{AllocError, Global};
+use xc_driver::RefusalKind;
 use xc_isa::TrapKind;
 
 /// The line that takes no memory.
 pub(crate) const NO_MEMORY: &str = "xmtc: no memory\n";
 
-/// The line of a status, with its line feed; a failed write has none.
+/// The line of a status, with its line feed; assembly that was written has none, nor has a failed write.
 pub(crate) fn line(alloc: Global, status: &Status) -> Result<String, AllocError>
     ensures { IfOk result (λ l. string_bytes l ≡ line_of status.now) }
 {
     match status {
         Status::Ok(numbers) => ended(alloc, "ended", *numbers),
         Status::ReadFault(name) => about(alloc, "xmtc: cannot read ", name.as_str(), "\n"),
-        Status::WriteFault => String::from_str(alloc, ""),
+        Status::Compiled | Status::WriteFault => String::from_str(alloc, ""),
         Status::Usage => String::from_str(alloc, "usage: xmtc COMMAND [OPTIONS] FILE\n"),
         Status::Long(name) => about(alloc, "xmtc: ", name.as_str(), ": too long\n"),
         Status::Refused { name, kind, at } => {
@@ -156,12 +157,26 @@ fn at_place(
     Ok(line)
 }
 
+fn refusal_text(kind: RefusalKind) -> &'static str
+    ensures { result.now ≡ refusal_text_of kind }
+{
+    match kind {
+        RefusalKind::Lex => "lex",
+        RefusalKind::Syntax => "syntax",
+        RefusalKind::Depth => "depth",
+        RefusalKind::Name => "name",
+        RefusalKind::Typing => "type",
+        RefusalKind::Count => "count",
+        RefusalKind::Unbuilt => "unbuilt",
+    }
+}
+
 fn kind_text(kind: FileKind) -> &'static str
     ensures { result.now ≡ kind_text_of kind }
 {
     match kind {
         FileKind::Asm => "asm",
-        FileKind::Unbuilt => "unbuilt",
+        FileKind::Source(kind) => refusal_text(kind),
     }
 }
 

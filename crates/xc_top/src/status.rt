@@ -3,6 +3,7 @@
 ghost use Rattle.std.specs.Prelude.{◌≡◌};
 ghost use Rattle.xc_top.specs.Codes.{code_of};
 
+use xc_driver::RefusalKind;
 use xc_isa::TrapKind;
 use xc_span::Pos;
 use xc_words::Name;
@@ -12,8 +13,8 @@ use xc_words::Name;
 pub enum FileKind {
     /// The text is no assembly.
     Asm,
-    /// The text may be a program, but not one that is translated today.
-    Unbuilt,
+    /// The text is no program that is translated today.
+    Source(RefusalKind),
 }
 
 /// What a run made of steps, on how many streams.
@@ -37,9 +38,11 @@ pub enum Bad {
 pub enum Status {
     /// The run ended, and all was written.
     Ok(Numbers),
+    /// The assembly was written.
+    Compiled,
     /// The file could not be read.
     ReadFault(Name),
-    /// The run ended, and not all could be written.
+    /// The work is done, and not all could be written.
     WriteFault,
     /// The words are no command.
     Usage,
@@ -84,7 +87,7 @@ impl Status {
         ensures { result ≡ code_of self.now }
     {
         match self {
-            Status::Ok(_) => 0,
+            Status::Ok(_) | Status::Compiled => 0,
             Status::ReadFault(_) | Status::WriteFault => 1,
             Status::Usage => 2,
             Status::Long(_) | Status::Refused { .. } => 3,

@@ -51,47 +51,137 @@ fn run(alloc: Global, line: &str, files: &[(&str, &str)], failing: &[u64]) -> Re
 }
 
 #[test]
-fn narrow_texts(rt: HostRuntime) -> Result<(), Fail> {
+fn sources(rt: HostRuntime) -> Result<(), Fail> {
     let rows = [
-        ("run t.c", SUM, 0, "14\n", "ended steps=21 streams=8\n"),
+        ("run t.c", SUM, 0, "14\n", "ended steps="),
         (
-            "run --streams 1 t.c",
-            SUM,
-            0,
-            "14\n",
-            "ended steps=21 streams=1\n",
-        ),
-        (
-            "run --seed 7 t.c",
-            SUM,
-            0,
-            "14\n",
-            "ended steps=21 streams=8\n",
-        ),
-        (
-            "run --steps=20 t.c",
+            "run --steps=2 t.c",
             SUM,
             5,
-            "14\n",
-            "unfinished steps=20 streams=8\n",
-        ),
-        (
-            "run --words 1 t.c",
-            SUM,
-            9,
             "",
-            "words live=1 asked=128 steps=1 streams=8\n",
+            "unfinished steps=2 streams=8\n",
         ),
         ("run u.c", SUM, 1, "", "xmtc: cannot read u.c\n"),
-        ("run t.c", "int x", 3, "", "xmtc: t.c:1:1: unbuilt\n"),
+        ("run t.c", "", 3, "", "xmtc: t.c:1:1: syntax\n"),
+        ("run t.c", "int x; /* ab", 3, "", "xmtc: t.c:1:8: lex\n"),
+        (
+            "run t.c",
+            "int main(){ y = 1; return 0; }",
+            3,
+            "",
+            "xmtc: t.c:1:13: name\n",
+        ),
+        (
+            "run t.c",
+            "int x; int main(){ return x[0]; }",
+            3,
+            "",
+            "xmtc: t.c:1:27: type\n",
+        ),
+        (
+            "run t.c",
+            "int a[4194304];\nint b; int main() { return 0; }",
+            3,
+            "",
+            "xmtc: t.c:2:5: count\n",
+        ),
+        (
+            "run t.c",
+            "int main() {\n int x; return x; }",
+            3,
+            "",
+            "xmtc: t.c:2:6: unbuilt\n",
+        ),
+        (
+            "run t.c",
+            "int x; int main() { return 1 / x; }",
+            4,
+            "",
+            "trap divide stream=0 steps=",
+        ),
+        ("compile u.c", SUM, 1, "", "xmtc: cannot read u.c\n"),
+        ("compile -- t.c", "int", 3, "", "xmtc: t.c:1:4: syntax\n"),
+        (
+            "run t.c",
+            "unsigned u = 3; int m = -9223372036854775807 - 1; int main() { printf(\"%ld %ld %lu %ld\\n\", m / -1, m % -1, u - 4, 1 << 64); return 0; }",
+            0,
+            "-9223372036854775808 0 18446744073709551615 1\n",
+            "ended steps=",
+        ),
+        (
+            "run t.c",
+            "unsigned u = 3; int main() { printf(\"%lu %lu %ld %ld %ld\\n\", (u - 4) / 2, (u - 4) % 10, u - 4 > 1, 3 << 65, -8 >> 66); return 0; }",
+            0,
+            "9223372036854775807 5 1 6 -2\n",
+            "ended steps=",
+        ),
     ];
     let alloc = rt.alloc();
     for (line, text, code, out, err) in rows {
         let left = run(alloc, line, &[("t.c", text)], &[])?;
-        assert_eq!(rt; left.code, code, "{line}");
-        assert_eq!(rt; left.out.as_slice(), out.as_bytes(), "{line}");
-        assert_eq!(rt; left.err.as_slice(), err.as_bytes(), "{line}");
+        assert_eq!(rt; left.out.as_slice(), out.as_bytes(), "{line} {text}");
+        assert!(rt;
+            left.err.as_slice().starts_with(err.as_bytes()),
+            "{line} {text}"
+        );
+        assert_eq!(rt; left.code, code, "{line} {text}");
     }
+    Ok(())
+}
+
+#[test]
+fn schedules_of_a_source(rt: HostRuntime) -> Result<(), Fail> {
+    let alloc = rt.alloc();
+    for streams in ["1", "4", "8"] {
+        for choice in ["", " --seed 7"] {
+            let mut line = String::from_str(alloc, "run --streams ")?;
+            line.push_str(streams)?;
+            line.push_str(choice)?;
+            line.push_str(" t.c")?;
+            let left = run(alloc, line.as_str(), &[("t.c", SUM)], &[])?;
+            assert_eq!(rt; left.code, 0, "{streams}{choice}");
+            assert_eq!(rt;
+                left.out.as_slice(),
+                b"14\n".as_slice(),
+                "{streams}{choice}"
+            );
+        }
+    }
+    Ok(())
+}
+
+#[test]
+fn what_is_compiled_runs_as_its_source(rt: HostRuntime) -> Result<(), Fail> {
+    let alloc = rt.alloc();
+    let compiled = run(alloc, "compile t.c", &[("t.c", SUM)], &[])?;
+    assert_eq!(rt; compiled.code, 0);
+    assert!(rt; compiled.err.is_empty());
+    let text = str::from_utf8(compiled.out.as_slice())
+        .ok()
+        .ok_or("a text")?;
+    let executed = run(alloc, "exec a.s", &[("a.s", text)], &[])?;
+    let ran = run(alloc, "run t.c", &[("t.c", SUM)], &[])?;
+    assert_eq!(rt; executed.code, 0);
+    assert_eq!(rt; executed.out.as_slice(), ran.out.as_slice());
+    assert_eq!(rt; executed.err.as_slice(), ran.err.as_slice());
+    Ok(())
+}
+
+#[test]
+fn a_deep_source(rt: HostRuntime) -> Result<(), Fail> {
+    let alloc = rt.alloc();
+    let mut text = String::from_str(alloc, "int main(){return ")?;
+    for _ in 0..200u32 {
+        text.push_str("(")?;
+    }
+    text.push_str("1")?;
+    for _ in 0..200u32 {
+        text.push_str(")")?;
+    }
+    text.push_str(";}")?;
+    let left = run(alloc, "run t.c", &[("t.c", text.as_str())], &[])?;
+    assert_eq!(rt; left.code, 3);
+    assert_eq!(rt; left.err.as_slice(), b"xmtc: t.c:1:145: depth\n".as_slice());
     Ok(())
 }
 
@@ -332,6 +422,7 @@ fn words_that_are_no_command(rt: HostRuntime) -> Result<(), Fail> {
         "",
         "run",
         "exec",
+        "compile",
         "halt a.s",
         "run --help",
         "exec a.s b.s",
@@ -358,6 +449,10 @@ fn words_that_are_no_command(rt: HostRuntime) -> Result<(), Fail> {
         "exec --record=1 a.s",
         "exec --fast a.s",
         "exec -r a.s",
+        "compile --steps 5 a.s",
+        "compile a.s a.s",
+        "compile -a",
+        "compile --",
     ];
     check_usage(&rt, rt.alloc(), &lines)
 }
@@ -403,6 +498,9 @@ fn a_failed_put_on_out(rt: HostRuntime) -> Result<(), Fail> {
     let ended = run(alloc, "run t.c", &[("t.c", SUM)], &[0])?;
     assert_eq!(rt; ended.code, 1);
     assert!(rt; ended.out.is_empty() && ended.err.is_empty());
+    let compiled = run(alloc, "compile t.c", &[("t.c", SUM)], &[0])?;
+    assert_eq!(rt; compiled.code, 1);
+    assert!(rt; compiled.out.is_empty() && compiled.err.is_empty());
     let cut = run(alloc, "exec --steps 2 a.s", &[("a.s", E1)], &[0])?;
     assert_eq!(rt; cut.code, 5);
     assert!(rt; cut.out.is_empty());

@@ -4,7 +4,7 @@ ghost use Rattle.std.specs.Prelude.{◌≡◌, Some, None, map, string_bytes, If
 ghost use Rattle.xc_words.specs.Words.{command_of};
 ghost use Rattle.xc_top.specs.Lines.{line_of};
 ghost use Rattle.xc_top.specs.Seen.{ShelfSeen, SinkSeen, Puts};
-ghost use Rattle.xc_top.specs.Answers.{Cause, Writes, Tells};
+ghost use Rattle.xc_top.specs.Answers.{Cause, Finishes, Writes, Tells};
 
 use crate::fetch::{Unread, fetch_texts};
 use crate::judge::{Plan, judge, said};
@@ -59,6 +59,25 @@ fn put_some<S: Sink>(sink: &mut S, text: &[u8])
     let _ = put_all(sink, text);
 }
 
+/// Writes to both sinks where the work is done.
+fn finish<O: Sink, E: Sink>(
+    done: Status,
+    text: Vec<u8>,
+    line: Vec<u8>,
+    out: &mut O,
+    err: &mut E,
+) -> Status
+    ensures { Finishes done text.items line.items (record { before = O.written out.old; after = O.written out.new; faults_before = O.faults out.old; faults_after = O.faults out.new }) (record { before = E.written err.old; after = E.written err.new; faults_before = E.faults err.old; faults_after = E.faults err.new }) result }
+{
+    if put_all(out, text.as_slice()).is_err() {
+        return Status::WriteFault;
+    }
+    match put_all(err, line.as_slice()) {
+        Ok(()) => done,
+        Err(_) => Status::WriteFault,
+    }
+}
+
 /// Writes to both sinks.
 fn write_plan<O: Sink, E: Sink>(plan: Plan, out: &mut O, err: &mut E) -> Status
     ensures { Writes plan.status plan.out.items plan.err.items (record { before = O.written out.old; after = O.written out.new; faults_before = O.faults out.old; faults_after = O.faults out.new }) (record { before = E.written err.old; after = E.written err.new; faults_before = E.faults err.old; faults_after = E.faults err.new }) result }
@@ -69,15 +88,8 @@ fn write_plan<O: Sink, E: Sink>(plan: Plan, out: &mut O, err: &mut E) -> Status
         err: line,
     } = plan;
     match status {
-        Status::Ok(numbers) => {
-            if put_all(out, text.as_slice()).is_err() {
-                return Status::WriteFault;
-            }
-            match put_all(err, line.as_slice()) {
-                Ok(()) => Status::Ok(numbers),
-                Err(_) => Status::WriteFault,
-            }
-        }
+        Status::Ok(numbers) => finish(Status::Ok(numbers), text, line, out, err),
+        Status::Compiled => finish(Status::Compiled, text, line, out, err),
         other => {
             put_some(out, text.as_slice());
             put_some(err, line.as_slice());

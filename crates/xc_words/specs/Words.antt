@@ -1,4 +1,4 @@
--- The command line: `run [OPTIONS] FILE` and `exec [OPTIONS] FILE`.
+-- The command line: `run [OPTIONS] FILE`, `exec [OPTIONS] FILE` and `compile FILE`.
 use Rattle.std.specs.Prelude.{ℕ, ◌^◌, ◌==◌, ◌&&◌, Bool, true, false, not, codes, List, [], ◌∷◌, Option, Some, None, nat_le, unwrap_or, if◌then◌else◌}
 use Rattle.std.specs.Option.{option_map, option_and_then}
 use Rattle.std.specs.Str.{bytes_eq}
@@ -7,7 +7,7 @@ use Rattle.xc_words.specs.declared.command.Choice.{Choice}
 use Rattle.xc_words.specs.declared.command.Choice.TheVariants.{Turns, Seed, Schedule}
 use Rattle.xc_words.specs.declared.command.Options.{Options}
 use Rattle.xc_words.specs.declared.command.Command.{Command}
-use Rattle.xc_words.specs.declared.command.Command.TheVariants.{Run, Exec}
+use Rattle.xc_words.specs.declared.command.Command.TheVariants.{Run, Exec, Compile}
 use Rattle.xc_words.specs.declared.options.Setting.{Setting}
 use Rattle.xc_words.specs.declared.options.Setting.TheVariants as setting
 use Rattle.xc_words.specs.declared.given.Given.{Given}
@@ -139,10 +139,21 @@ request_at place.Names g = with_options g g.file (choice_of g.seed g.schedule)
 abbrev pub request_of : List (List ℕ) → Option (Options × List ℕ)
 request_of ws = option_and_then (λ g. request_at g.place g) (all_given nothing_given ws)
 
+-- a name, no option
+abbrev pub plain_name : List ℕ → Option (List ℕ)
+plain_name w = if is_dashed w then None else name_of w
+
+-- the one name of words that may have `--`, behind which any word is a name (POSIX Utility Syntax Guidelines, 10)
+abbrev pub file_of : List (List ℕ) → Option (List ℕ)
+file_of (w ∷ []) = plain_name w
+file_of (v ∷ w ∷ []) = if bytes_eq v (codes "--") then name_of w else if bytes_eq w (codes "--") then plain_name v else None
+file_of _ = None
+
 -- the command of the words; none: they are no command
 abbrev pub command_of : List (List ℕ) → Option Command
 command_of [] = None
 command_of (c ∷ ws) =
     if bytes_eq c (codes "run") then option_map (λ r. Run r.0 r.1) (request_of ws)
     else if bytes_eq c (codes "exec") then option_map (λ r. Exec r.0 r.1) (request_of ws)
+    else if bytes_eq c (codes "compile") then option_map (λ f. Compile f) (file_of ws)
     else None

@@ -1,7 +1,8 @@
 //! Commands, with their options.
 
 ghost use Rattle.std.specs.Prelude.{◌≡◌, string_bytes, IfOk};
-ghost use Rattle.xc_words.specs.Commands.{file_in, options_in};
+ghost use Rattle.std.specs.Option.{option_map};
+ghost use Rattle.xc_words.specs.Commands.{file_in, options_in, schedule_in, schedule_of};
 
 use crate::within::{OutLimit, Steps, Streams, WordLimit};
 use std::alloc::{AllocError, Global};
@@ -70,24 +71,53 @@ pub enum Command {
     Run { options: Options, file: Name },
     /// Runs the assembly in a file.
     Exec { options: Options, file: Name },
+    /// Writes the assembly of the program in a file.
+    Compile { file: Name },
+}
+
+impl Choice {
+    /// The file of the schedule, where one is named.
+    pub fn schedule(&self) -> Option<&Name>
+        ensures { option_map (λ n. n.now) result ≡ schedule_in self.now }
+    {
+        match self {
+            Choice::Schedule(file) => Some(file),
+            Choice::Turns | Choice::Seed(_) => None,
+        }
+    }
 }
 
 impl Command {
-    /// The file that is run.
+    /// The file that is run or compiled.
     pub fn file(&self) -> &Name
         ensures { result.now ≡ file_in self.now }
     {
         match self {
-            Command::Run { file, .. } | Command::Exec { file, .. } => file,
+            Command::Run { file, .. } | Command::Exec { file, .. } | Command::Compile { file } => {
+                file
+            }
         }
     }
 
-    /// How it is run.
-    pub fn options(&self) -> &Options
-        ensures { result.now ≡ options_in self.now }
+    /// How it is run, where it is.
+    pub fn options(&self) -> Option<&Options>
+        ensures { option_map (λ o. o.now) result ≡ options_in self.now }
     {
         match self {
-            Command::Run { options, .. } | Command::Exec { options, .. } => options,
+            Command::Run { options, .. } | Command::Exec { options, .. } => Some(options),
+            Command::Compile { .. } => None,
+        }
+    }
+
+    /// The file of the schedule, where one is named.
+    pub fn schedule(&self) -> Option<&Name>
+        ensures { option_map (λ n. n.now) result ≡ schedule_of self.now }
+    {
+        match self {
+            Command::Run { options, .. } | Command::Exec { options, .. } => {
+                options.choice.schedule()
+            }
+            Command::Compile { .. } => None,
         }
     }
 }

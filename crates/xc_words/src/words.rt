@@ -1,10 +1,11 @@
 //! The words of the command line.
 
 ghost use Rattle.std.specs.Prelude.{◌≡◌, Some, None, map, string_bytes, MatchResult};
-ghost use Rattle.xc_words.specs.Words.{all_given as all_given_by, nothing_given, request_of, command_of};
+ghost use Rattle.xc_words.specs.Words.{all_given as all_given_by, nothing_given, request_of, name_of, plain_name as plain_name_of, file_of as file_of_words, command_of};
 
 use crate::command::{Command, Name, Options};
 use crate::given::Given;
+use crate::options::{is_dashed, name_in};
 use std::alloc::{AllocError, Global};
 
 /// Why no command was read.
@@ -46,6 +47,43 @@ fn request(alloc: Global, words: &[String]) -> Result<(Options, Name), WordsFaul
     all_given(alloc, words)?.finish()
 }
 
+fn name(alloc: Global, word: &str) -> Result<Name, WordsFault>
+    ensures { MatchResult result (λ n. name_of word.now ≡ Some n)
+        (λ e. e ≡ WordsFault.Usage → name_of word.now ≡ None) }
+{
+    name_in(alloc, word)?.ok_or(WordsFault::Usage)
+}
+
+fn plain_name(alloc: Global, word: &str) -> Result<Name, WordsFault>
+    ensures { MatchResult result (λ n. plain_name_of word.now ≡ Some n)
+        (λ e. e ≡ WordsFault.Usage → plain_name_of word.now ≡ None) }
+{
+    if is_dashed(word) {
+        return Err(WordsFault::Usage);
+    }
+    name(alloc, word)
+}
+
+/// The file that words without options name.
+fn file_of(alloc: Global, words: &[String]) -> Result<Name, WordsFault>
+    ensures { MatchResult result (λ n. file_of_words (map string_bytes words.now) ≡ Some n)
+        (λ e. e ≡ WordsFault.Usage → file_of_words (map string_bytes words.now) ≡ None) }
+{
+    match words {
+        [file] => plain_name(alloc, file.as_str()),
+        [first, second] => {
+            if first.as_str() == "--" {
+                name(alloc, second.as_str())
+            } else if second.as_str() == "--" {
+                plain_name(alloc, first.as_str())
+            } else {
+                Err(WordsFault::Usage)
+            }
+        }
+        _ => Err(WordsFault::Usage),
+    }
+}
+
 /// The command that the words after the program's name say.
 pub fn read_command(alloc: Global, words: &[String]) -> Result<Command, WordsFault>
     ensures { MatchResult result (λ c. command_of (map string_bytes words.now) ≡ Some c)
@@ -61,6 +99,10 @@ pub fn read_command(alloc: Global, words: &[String]) -> Result<Command, WordsFau
     if command.as_str() == "exec" {
         let (options, file) = request(alloc, rest)?;
         return Ok(Command::Exec { options, file });
+    }
+    if command.as_str() == "compile" {
+        let file = file_of(alloc, rest)?;
+        return Ok(Command::Compile { file });
     }
     Err(WordsFault::Usage)
 }

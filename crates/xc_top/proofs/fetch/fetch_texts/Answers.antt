@@ -1,6 +1,5 @@
 use Rattle.std.proofs.Common.{◌≡◌, ◌^◌, Err, inl, inr, refl, sym, ap, ◌∙◌, subst}
-use Rattle.xc_words.specs.declared.command.Options.{Options}
-use Rattle.xc_words.specs.Commands.{file_in, schedule_in}
+use Rattle.xc_words.specs.Commands.{file_in}
 use Rattle.xc_top.specs.declared.fetch.Unread.TheVariants.{Said}
 use Rattle.xc_top.specs.Seen.{ShelfSeen}
 use Rattle.xc_top.specs.Answers.{IsUnreadAt, limit_in}
@@ -27,6 +26,6 @@ returns-in-Err-fetch_schedule-clause-unread g c = λ status e.
     let h = c.fetch_schedule.ensures.unread status (c.in-Err-fetch_schedule.is ∙ ap Err same) in (
       h.0,
       2 ^ 26,
-      inr (ap (λ (o : Options). schedule_in o.choice) (sym c.options.ensures) ∙ h.1, refl),
+      inr (h.1, refl),
       unread_later shelf later h.0 (2 ^ 26) status c.fetch_text.ensures.files_stay refl refl c.in-Ok.ensures.quiet c.fetch_text.ensures.faults_kept c.fetch_text.ensures.taken_kept h.2,
     )

@@ -1,9 +1,0 @@
-//! From programs to code.
-#![tactic(auto)]
-
-mod emit;
-
-pub use emit::code_of;
-
-#[cfg(test)]
-mod tests;

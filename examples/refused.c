@@ -1,0 +1,6 @@
+int total;
+
+int main() {
+  total = 1 + totl;
+  return total;
+}
