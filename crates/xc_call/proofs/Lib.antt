@@ -1,2 +1,2 @@
 mod Passing
-mod Formats
+pub mod Formats

@@ -1,7 +1,8 @@
 //! The passes, one behind another.
 
 ghost use Rattle.std.specs.Prelude.{◌≡◌, ◌≤◌, ◌^◌, length, IfOk, IfErr};
-ghost use Rattle.xc_lex.specs.Source.{AreTokens};
+ghost use Rattle.std.specs.List.{All};
+ghost use Rattle.xc_lex.specs.Source.{AreTokens, IsSpelled};
 ghost use Rattle.xc_type.specs.Checked.{IsTree};
 ghost use Rattle.xc_driver.specs.Compiles as spec;
 
@@ -33,6 +34,7 @@ fn tokens_of(alloc: Global, source: &[u8]) -> Result<Tokens, CompileFault>
     requires { length source.now ≤ 2 ^ 20 }
     ensures tokens { IfOk result (λ tokens. AreTokens source.now tokens) }
     ensures few { IfOk result (λ tokens. length tokens ≤ 2 ^ 20) }
+    ensures spelled { IfOk result (λ tokens. All (IsSpelled source.now) tokens) }
     ensures refused { IfErr result (spec.IsRefused source.now) }
 {
     match lex(alloc, source) {
@@ -60,6 +62,7 @@ fn raw_of(alloc: Global, source: &[u8], tokens: &Tokens) -> Result<Raw, CompileF
 fn typed(alloc: Global, source: &[u8], tokens: &Tokens, raw: Raw) -> Result<Tree, CompileFault>
     requires short { length source.now ≤ 2 ^ 20 }
     requires few { length tokens.now ≤ 2 ^ 20 }
+    requires spelled { All (IsSpelled source.now) tokens.now }
     requires parsed { spec.IsParsed source.now tokens.now raw }
     ensures tree { IfOk result (IsTree source.now tokens.now raw) }
     ensures refused { IfErr result (spec.IsRefused source.now) }

@@ -17,4 +17,6 @@ pub use text::{Whole, outer};
 pub use types::copy_known;
 
 #[cfg(test)]
+mod statement_tests;
+#[cfg(test)]
 mod tests;

@@ -14,6 +14,3 @@ pub use declarations::declare;
 pub use forms::{body, stated};
 pub use make::{Header, followed, one};
 pub use pragmas::Begun;
-
-#[cfg(test)]
-mod tests;

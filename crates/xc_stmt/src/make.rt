@@ -166,9 +166,7 @@ pub(crate) fn headed(
 ) -> Option<Header>
     ensures { result ≡ spec.headed init test step }
 {
-    let init = init?;
-    let test = test?;
-    let step = step?;
+    let (init, (test, step)) = init.zip(test.zip(step))?;
     Some(Header { init, test, step })
 }
 

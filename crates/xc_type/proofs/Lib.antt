@@ -1,2 +1,3 @@
 mod Types
 mod Faults
+mod Trees

@@ -1,12 +1,10 @@
 -- The types of members, one behind another.
-use Rattle.std.proofs.Common.{◌≡◌, ℕ, ◌+◌, ◌<◌, List, [], ◌∷◌, length, get_or, drop, map, sym, ap, ◌∙◌, arith}
-use Rattle.std.specs.Prelude.{Option, Some, option_and_then, slice_get}
+use Rattle.std.proofs.Common.{◌≡◌, ℕ, ◌+◌, ◌<◌, List, [], ◌∷◌, length, drop, sym, ap, ◌∙◌, arith}
+use Rattle.std.specs.Prelude.{option_and_then}
 use Rattle.std.proofs.lemmas.List.{drop_more}
 use Rattle.std.proofs.lemmas.Option.{slice_get-get_or}
 use Rattle.std.proofs.lemmas.Grind.{common_steps}
-use Rattle.xc_tree.specs.declared.ty.Ty.{Ty}
 use Rattle.xc_found.specs.declared.found.Member.{Member}
-use Rattle.xc_stmt.specs.Making.{one, followed, all_made}
 use Rattle.xc_stmt.proofs.Parts.{followed_first, followed_last, followed_assoc, made_none, made_more}
 use Rattle.xc_type.specs.Checked.{types_of, type_at}
 

@@ -1,9 +1,11 @@
 -- What a text is checked to be: the least of its faults, the first place at which a count passes its limit, or its typed tree.
-use Rattle.std.specs.Prelude.{◌≡◌, ℕ, List, [], ◌∷◌, map, Option, Some, None, option_and_then, slice_get}
+use Rattle.std.specs.Prelude.{◌≡◌, ℕ, ◌^◌, Bool, ◌&&◌, nat_lt, List, length, map, Option, Some, None, option_and_then, slice_get}
+use Rattle.std.specs.List.{list_all}
 use Rattle.xc_span.specs.Place.{IsPosition}
 use Rattle.xc_lex.specs.declared.token.Token.{Token}
 use Rattle.xc_raw.specs.declared.tree.Raw.{Raw, out-Raw}
 use Rattle.xc_tree.specs.declared.ty.Ty.{Ty}
+use Rattle.xc_tree.specs.declared.tree.Func.{Func}
 use Rattle.xc_tree.specs.declared.tree.Tree.{Tree}
 use Rattle.xc_found.specs.declared.fault.Fault.{Fault}
 use Rattle.xc_found.specs.declared.fault.Breach.TheVariants as breach
@@ -67,6 +69,14 @@ known_types ms = all_made (types_of ms)
 
 abbrev pub struct_types : List (List Member) → Option (List (List Ty))
 struct_types structs = all_made (map known_types structs)
+
+-- a number of 32 bits counts so many
+abbrev pub is_few : ℕ → Bool
+is_few n = nat_lt n (2 ^ 32)
+
+-- so many structs and formats, and these functions with their locals
+abbrev pub are_few : ℕ → List Func → ℕ → Bool
+are_few structs funcs formats = is_few structs && (is_few (length funcs) && (is_few formats && list_all (λ f. is_few (length f.locals)) funcs))
 
 -- the tree that declarations and definitions make
 pub record IsMade (s : FileScope) (main : Option ℕ) (formats : List (List ℕ)) (tree : Tree) : Type 0 where

@@ -1,6 +1,9 @@
 //! The call that checks a text.
 
 ghost use Rattle.std.specs.Prelude.{◌≡◌, ◌≤◌, ◌<◌, ◌^◌, length, IfOk, IfErr};
+ghost use Rattle.std.specs.List.{All};
+ghost use Rattle.xc_lex.specs.Source.{IsSpelled};
+ghost use Rattle.xc_parse.specs.Texts.{words_of, Parsed};
 ghost use Rattle.xc_type.specs.Checked as spec;
 
 use crate::fault::{CheckFault, placed};
@@ -56,6 +59,8 @@ fn checked(
 pub fn check(alloc: Global, source: &[u8], tokens: &Tokens, raw: Raw) -> Result<Tree, CheckFault>
     requires short { length source.now ≤ 2 ^ 20 }
     requires few { length tokens.now ≤ 2 ^ 20 }
+    requires spelled { All (IsSpelled source.now) tokens.now }
+    requires parsed { Parsed (words_of source.now tokens.now) raw }
     ensures tree { IfOk result (spec.IsTree source.now tokens.now raw) }
     ensures fault { IfErr result (spec.IsFault source.now tokens.now raw) }
 {

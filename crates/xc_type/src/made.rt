@@ -1,6 +1,8 @@
 //! The tree of a text that breaks no rule.
 
-ghost use Rattle.std.specs.Prelude.{◌≡◌, IfOk, IfErr};
+ghost use Rattle.std.specs.Prelude.{◌≡◌, length, IfOk, IfErr};
+ghost use Rattle.std.specs.List.{list_all};
+ghost use Rattle.xc_whole.specs.Files.{IsTyped};
 ghost use Rattle.xc_type.specs.Checked as spec;
 ghost use Rattle.xc_type.specs.declared.fault.CheckFault.TheVariants.{NoMemory};
 
@@ -10,8 +12,8 @@ use std::alloc::{AllocError, Global};
 use xc_outer::{FileScope, Whole, copy_known};
 use xc_stmt::{followed, one};
 use xc_structs::Members;
+use xc_tree::tree::Func;
 use xc_tree::{Tree, Ty};
-use xc_valid::is_valid;
 
 fn type_at(alloc: Global, members: &Members, at: usize) -> Result<Option<Ty>, AllocError>
     ensures { IfOk result (λ r. r ≡ spec.type_at members.now at) }
@@ -46,12 +48,32 @@ fn struct_types(alloc: Global, structs: &[Members]) -> Result<Option<Items<Items
     Ok(all)
 }
 
-/// The tree, if its parts are there and pass the test of typed trees; else want of memory.
+fn is_few(n: usize) -> bool
+    ensures { result ≡ spec.is_few n }
+{
+    n <= u32::MAX as usize
+}
+
+fn have_few_locals(funcs: &[Func]) -> bool
+    ensures { result ≡ list_all (λ f. spec.is_few (length f.locals)) funcs.now }
+{
+    funcs.iter().all(|func| is_few(func.locals.len()))
+}
+
+fn are_few(structs: usize, funcs: &[Func], formats: usize) -> bool
+    ensures { result ≡ spec.are_few structs funcs.now formats }
+{
+    is_few(structs) && is_few(funcs.len()) && is_few(formats) && have_few_locals(funcs)
+}
+
+/// The tree; want of memory also where 32 bits do not count its structs, functions, formats or locals.
+#[tactic(auto, using(crate::proofs::Trees::tree_rules))]
 pub(crate) fn made(
     alloc: Global,
     whole: Whole,
     formats: Items<Items<u8>>,
 ) -> Result<Tree, CheckFault>
+    requires { IsTyped whole.scope whole.main formats }
     ensures tree { IfOk result (spec.IsMade whole.scope whole.main formats) }
     ensures fault { IfErr result (λ e. e ≡ NoMemory) }
 {
@@ -68,16 +90,7 @@ pub(crate) fn made(
     let structs = struct_types(alloc, env.structs().members())?.ok_or(CheckFault::NoMemory)?;
     let notes = Items::from_slice(alloc, env.notes())?;
     let loops = env.loops();
-    let valid = is_valid(
-        alloc,
-        structs.as_slice(),
-        globals.as_slice(),
-        funcs.as_slice(),
-        formats.as_slice(),
-        loops,
-        main,
-    )?;
-    if !valid {
+    if !are_few(structs.len(), funcs.as_slice(), formats.len()) {
         return Err(CheckFault::NoMemory);
     }
     Ok(Tree {

@@ -1,0 +1,17 @@
+pub mod Passing
+pub mod Operators
+pub mod Names
+pub mod Places
+pub mod Parts
+pub mod Calls
+pub mod Called
+pub mod Rules
+pub mod Expressions
+pub mod Base
+pub mod Pieces
+pub mod Constants
+pub mod Specified
+pub mod Bounds
+pub mod Members
+pub mod Structs
+pub mod Roles

@@ -1,0 +1,2 @@
+//! What expressions, specifiers, structs and declarators without faults give.
+#![tactic(auto)]

@@ -1,0 +1,2 @@
+//! Structs in an order in which each stands above those that lie in it.
+#![tactic(auto)]

@@ -1,0 +1,10 @@
+pub mod Patterns
+pub mod Placed
+pub mod Parts
+pub mod Levels
+pub mod Keys
+pub mod Tokens
+pub mod Lexed
+pub mod Words
+pub mod Shaped
+pub mod Texts

@@ -1,0 +1,2 @@
+//! What initialisers and statements without faults make.
+#![tactic(auto)]

@@ -1,0 +1,121 @@
+-- The tree of a text without faults is well typed.
+use Rattle.std.proofs.Common.{◌≡◌, ℕ, ◌^◌, ◌<◌, List, [], ◌∷◌, length, Bool, true, false, cond, refl, sym, ap, ◌∙◌, subst}
+use Rattle.std.specs.Prelude.{IsTrue, is_some, Option, Some, None}
+use Rattle.std.specs.List.{All, list_all}
+use Rattle.std.proofs.lemmas.Bool.{ltb-true}
+use Rattle.std.proofs.lemmas.Grind.{common_steps}
+use Rattle.xc_lex.specs.declared.token.Token.{Token}
+use Rattle.xc_lex.specs.Source.{IsSpelled}
+use Rattle.xc_raw.specs.declared.tree.Raw.{Raw, out-Raw}
+use Rattle.xc_parse.specs.Texts.{words_of, Parsed}
+use Rattle.xc_tree.specs.declared.ty.Ty.{Ty}
+use Rattle.xc_tree.specs.declared.tree.Func.{Func}
+use Rattle.xc_tree.specs.Valid.{tree_ok}
+use Rattle.xc_tree.proofs.Lists.{and_left, and_right}
+use Rattle.xc_found.specs.declared.fault.Fault.{Fault}
+use Rattle.xc_found.specs.declared.found.Member.{Member}
+use Rattle.xc_found.specs.Least.{is_before, least_from}
+use Rattle.xc_literal.specs.Texts.{formats_of}
+use Rattle.xc_stmt.specs.Making.{one, followed, all_made}
+use Rattle.xc_outer.specs.declared.scope.FileScope.{FileScope}
+use Rattle.xc_outer.specs.declared.text.Whole.{Whole}
+use Rattle.xc_outer.specs.Functions.{bodies_of}
+use Rattle.xc_outer.specs.Texts.{whole, main_in}
+use Rattle.xc_extends.specs.Lists.{Each}
+use Rattle.xc_extends.specs.Table.{with_known, tys_of, struct_tys}
+use Rattle.xc_shaped.proofs.Texts as texts
+use Rattle.xc_whole.specs.Files.{AreFew, IsTyped}
+use Rattle.xc_whole.proofs.Whole.{whole_typed}
+use Rattle.xc_type.specs.Checked.{known_types, struct_types, is_few, are_few, scope_of, IsWholeOf}
+
+-- types of members -------------------------------------------------------------
+
+one_more : (o : Option Ty) → IsTrue (is_some o) → (ts : List Ty) → followed (one o) (Some ts) ≡ Some (with_known o ts)
+unfolding one followed
+one_more None h ts = absurd cc
+one_more (Some t) h ts = refl
+
+types_known : (ms : List Member) → Each (λ (m : Member). IsTrue (is_some m.ty)) ms → known_types ms ≡ Some (tys_of ms)
+unfolding all_made
+types_known [] h = refl
+types_known (m ∷ ms) h = ap (followed (one m.ty)) (types_known ms h.1) ∙ one_more m.ty h.0 (tys_of ms)
+
+struct_more : (ts : List Ty) (rest : List (List Ty)) → followed (one (Some ts)) (Some rest) ≡ Some (ts ∷ rest)
+unfolding one followed
+struct_more ts rest = refl
+
+structs_known : (ss : List (List Member)) → Each (λ ms. Each (λ (m : Member). IsTrue (is_some m.ty)) ms) ss → struct_types ss ≡ Some (struct_tys ss)
+unfolding all_made
+structs_known [] h = refl
+structs_known (ms ∷ ss) h = ap (λ o. followed (one o) (struct_types ss)) (types_known ms h.0)
+    ∙ (ap (followed (one (Some (tys_of ms)))) (structs_known ss h.1) ∙ struct_more (tys_of ms) (struct_tys ss))
+
+-- counts -----------------------------------------------------------------------
+
+locals_few : (fs : List Func) → IsTrue (list_all (λ (f : Func). is_few (length f.locals)) fs) → Each (λ (f : Func). length f.locals < 2 ^ 32) fs
+locals_few [] h = tt
+locals_few (f ∷ fs) h = (ltb-true (length f.locals) (2 ^ 32) (and_left (is_few (length f.locals)) _ h), locals_few fs (and_right (is_few (length f.locals)) _ h))
+
+few_of : (structs : List (List Ty)) (funcs : List Func) (formats : List (List ℕ)) → IsTrue (are_few (length structs) funcs (length formats)) → AreFew structs funcs formats
+few_of structs funcs formats h =
+    let behind = and_right (is_few (length structs)) _ h in
+    let rest = and_right (is_few (length funcs)) _ behind in
+    record {
+      few_structs = ltb-true (length structs) (2 ^ 32) (and_left (is_few (length structs)) _ h);
+      few_funcs = ltb-true (length funcs) (2 ^ 32) (and_left (is_few (length funcs)) _ behind);
+      few_formats = ltb-true (length formats) (2 ^ 32) (and_left (is_few (length formats)) _ rest);
+      few_locals = locals_few funcs (and_right (is_few (length formats)) _ rest);
+    }
+
+-- the tree ---------------------------------------------------------------------
+
+same_some : {A : Type 0} (o : Option A) (x y : A) → o ≡ Some x → o ≡ Some y → x ≡ y
+same_some o x y e h = let both : Some x ≡ Some y = sym e ∙ h in cc
+
+pub tree_valid : (s : FileScope) (main : Option ℕ) (formats : List (List ℕ)) (structs : List (List Ty)) (funcs : List Func) (n : ℕ) → IsTyped s main formats →
+    struct_types s.env.structs.members ≡ Some structs → s.funcs ≡ Some funcs → main ≡ Some n → are_few (length structs) funcs (length formats) ≡ true →
+    IsTrue (tree_ok structs s.globals funcs formats s.env.loops n)
+tree_valid s main formats structs funcs n typed structs_are funcs_are main_is few =
+    let same_structs = same_some (struct_types s.env.structs.members) (struct_tys s.env.structs.members) structs (structs_known s.env.structs.members typed.members) structs_are in
+    let same_funcs = same_some s.funcs typed.funcs funcs typed.funcs_are funcs_are in
+    let same_main = same_some main typed.number n typed.main_is main_is in
+    let counted : IsTrue (are_few (length (struct_tys s.env.structs.members)) typed.funcs (length formats)) =
+    subst (λ fs. IsTrue (are_few (length (struct_tys s.env.structs.members)) fs (length formats))) (sym same_funcs)
+    (subst (λ ss. IsTrue (are_few (length ss) funcs (length formats))) (sym same_structs) few) in
+    subst (λ ss. IsTrue (tree_ok ss s.globals funcs formats s.env.loops n)) same_structs
+    (subst (λ fs. IsTrue (tree_ok (struct_tys s.env.structs.members) s.globals fs formats s.env.loops n)) same_funcs
+    (subst (λ k. IsTrue (tree_ok (struct_tys s.env.structs.members) s.globals typed.funcs formats s.env.loops k)) same_main
+    (typed.valid (few_of (struct_tys s.env.structs.members) typed.funcs formats counted))))
+
+-- texts ------------------------------------------------------------------------
+
+lesser_is : (b : Bool) (g f : Fault) → cond b (Some g) (Some f) ≡ Some (cond b g f)
+lesser_is true g f = refl
+lesser_is false g f = refl
+
+least_some : (fs : List Fault) (f : Fault) → least_from (Some f) fs ≡ None → ⊥
+unfolding least_from
+least_some [] f e = absurd cc
+least_some (g ∷ gs) f e = least_some gs (cond (is_before g f) g f) (ap (λ o. least_from o gs) (sym (lesser_is (is_before g f) g f)) ∙ e)
+
+no_faults : (fs : List Fault) → least_from None fs ≡ None → fs ≡ []
+unfolding least_from
+no_faults [] e = refl
+no_faults (f ∷ fs) e = absurd (least_some fs f e)
+
+-- what the declarations of a text without faults make is well typed
+pub typed_whole : (source : List ℕ) (tokens : List Token) (raw : Raw) (w : Whole) (formats : List (List ℕ)) → All (IsSpelled source) tokens → Parsed (words_of source tokens) raw →
+    IsWholeOf source tokens raw w → formats ≡ formats_of source tokens → IsTyped w.scope w.main formats
+typed_whole source tokens raw w formats spelled parsed h is =
+    let t = h.0 in
+    let x = h.1 in
+    let made = h.2 in
+    let main = main_in t (bodies_of t (out-Raw raw).parts) in
+    let lexed = texts.lexed source tokens t x.source_is x.tokens_are x.names x.constants x.numbers x.formats x.takes in
+    let unit = texts.shaped source tokens t x.source_is x.tokens_are x.names x.constants x.numbers x.formats x.takes spelled raw parsed in
+    let end = whole_typed t raw lexed unit (no_faults (whole t raw).faults made.faultless.faultless) made.faultless.within in
+    subst (λ m. IsTyped w.scope m formats) (sym made.main_is)
+    (subst (λ s. IsTyped s main formats) (sym made.scope)
+    (subst (λ fs. IsTyped (scope_of t raw) main fs) (x.formats ∙ sym is) end))
+
+pub ruleset tree_rules = (common_steps, tree_valid)

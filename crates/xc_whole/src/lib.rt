@@ -1,0 +1,2 @@
+//! A text without faults makes a typed tree.
+#![tactic(auto)]
