@@ -12,7 +12,12 @@ use xc_tree::{Expr, Ty};
 pub(crate) fn ruled(keeps: bool, known: Known) -> Option<Known>
     ensures { result ≡ spec.ruled keeps known }
 {
-    if keeps { Some(known) } else { None }
+    if keeps {
+        Some(known)
+    } else {
+        drop(known);
+        None
+    }
 }
 
 pub(crate) fn given_by(alloc: Global, to: Option<&Ty>, value: Found) -> Result<Found, AllocError>
@@ -96,7 +101,10 @@ fn one_more(made: Option<Items<Expr>>, e: Option<Expr>) -> Result<Option<Items<E
             Ok(Some(made))
         }
         (None, None) => Ok(None),
-        (None, Some(_)) => Ok(None),
+        (None, Some(e)) => {
+            drop(e);
+            Ok(None)
+        }
         (Some(_), None) => Ok(None),
     }
 }
@@ -107,7 +115,9 @@ pub(crate) fn all_made(alloc: Global, args: Vec<Found>) -> Result<Option<Items<E
 {
     let mut made = Some(Items::new(alloc));
     for arg in args {
-        made = one_more(made, arg.made)?;
+        let Found { known, made: e } = arg;
+        drop(known);
+        made = one_more(made, e)?;
     }
     Ok(made)
 }

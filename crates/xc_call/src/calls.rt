@@ -11,6 +11,7 @@ use crate::arguments::{all_fit, all_made, given_to, ruled};
 use std::alloc::{AllocError, Global};
 use xc_copy::copy_ty;
 use xc_found::{Fault, Found, Known, Thing, found_by, note_name, note_type, unknown_value};
+use xc_hold::both;
 use xc_span::Span;
 use xc_tree::{ExprKind, Ty};
 
@@ -76,8 +77,8 @@ fn called(
     ensures part { IfOk result (λ r. r ≡ spec.called_part span number params.now ret.now args.items) }
     ensures first { OnOk result (first.new ≡ least_from first.old (spec.called_faults span params.now ret.now args.items)) }
 {
-    let ruling = call_ruling(alloc, params, ret, args.as_slice())?;
-    let kind = call_of(alloc, number, args)?;
+    let ruling = call_ruling(alloc, params, ret, args.as_slice());
+    let (kind, ruling) = both(call_of(alloc, number, args), ruling)?;
     found_by(alloc, span, ruling, kind, first)
 }
 

@@ -13,6 +13,7 @@ use xc_copy::copy_ty;
 use xc_found::{
     Fault, Found, Known, base_of, found_by, is_number, may_be_number, may_be_plain, may_fit,
 };
+use xc_hold::{both, kept};
 use xc_span::Span;
 use xc_tree::{Expr, ExprKind, Ty};
 use xc_word::Kind;
@@ -149,16 +150,21 @@ fn update_of(
 {
     match (place, value) {
         (Some(place), Some(value)) => {
-            let place = Boxed::new(alloc, place)?;
-            let value = Boxed::new(alloc, value)?;
+            let (place, value) = both(Boxed::new(alloc, place), Boxed::new(alloc, value))?;
             match kind {
                 Kind::Add => Ok(Some(ExprKind::FetchAdd { place, value })),
                 _ => Ok(Some(ExprKind::Write { kind, place, value })),
             }
         }
         (None, None) => Ok(None),
-        (None, Some(_)) => Ok(None),
-        (Some(_), None) => Ok(None),
+        (None, Some(value)) => {
+            drop(value);
+            Ok(None)
+        }
+        (Some(place), None) => {
+            drop(place);
+            Ok(None)
+        }
     }
 }
 
@@ -174,8 +180,10 @@ pub fn access(
     ensures part { IfOk result (λ r. r ≡ spec.access_part span kind place) }
     ensures first { OnOk result (first.new ≡ least_from first.old (spec.access_faults span kind place)) }
 {
-    let ruling = access_ruling(alloc, kind, &place.known)?;
-    let made = access_of(alloc, kind, place.made)?;
+    let Found { known, made } = place;
+    let ruling = access_ruling(alloc, kind, &known);
+    drop(known);
+    let (made, ruling) = both(access_of(alloc, kind, made), ruling)?;
     found_by(alloc, span, ruling, made, first)
 }
 
@@ -191,8 +199,10 @@ fn updated(
     ensures part { IfOk result (λ r. r ≡ spec.updated_part span kind place value) }
     ensures first { OnOk result (first.new ≡ least_from first.old (spec.updated_faults span kind place value)) }
 {
-    let ruling = update_ruling(alloc, kind, &place.known, &value.known)?;
-    let made = update_of(alloc, kind, place.made, value.made)?;
+    let Found { known, made } = place;
+    let ruling = update_ruling(alloc, kind, &known, &value.known);
+    drop((known, value.known));
+    let (made, ruling) = both(update_of(alloc, kind, made, value.made), ruling)?;
     found_by(alloc, span, ruling, made, first)
 }
 
@@ -209,6 +219,6 @@ pub fn update(
     ensures part { IfOk result (λ r. r ≡ spec.update_part span kind place value) }
     ensures first { OnOk result (first.new ≡ least_from first.old (spec.update_faults span kind place value)) }
 {
-    let value = given_by(alloc, scalar_of(&place.known), value)?;
+    let (value, place) = kept(given_by(alloc, scalar_of(&place.known), value), place)?;
     updated(alloc, span, kind, place, value, first)
 }

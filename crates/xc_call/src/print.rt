@@ -10,6 +10,7 @@ use crate::calls::misused;
 use std::alloc::{AllocError, Global};
 use xc_format::conversions;
 use xc_found::{Fault, Found, Known, found_by, may_be_number, note_type};
+use xc_hold::kept;
 use xc_span::Span;
 use xc_tree::{ExprKind, Ty};
 
@@ -110,7 +111,7 @@ pub fn printed(
         Some(text) => {
             note_format(text, first);
             let ruling = print_ruling(text.takes, args.as_slice());
-            let kind = print_kind(alloc, text, args)?;
+            let (kind, ruling) = kept(print_kind(alloc, text, args), ruling)?;
             found_by(alloc, span, ruling, kind, first)
         }
     }

@@ -5,6 +5,7 @@ ghost use Rattle.std.specs.Prelude.{◌≡◌, IfOk};
 use crate::ty::copy_ty;
 use sqlite_items::{Boxed, Items};
 use std::alloc::{AllocError, Global};
+use xc_hold::{both, kept};
 use xc_tree::{Expr, ExprKind};
 
 /// A copy of an expression.
@@ -12,8 +13,7 @@ use xc_tree::{Expr, ExprKind};
 pub fn copy_expr(alloc: Global, e: &Expr) -> Result<Expr, AllocError>
     ensures { IfOk result (λ r. r ≡ e.now) }
 {
-    let ty = copy_ty(alloc, &e.ty)?;
-    let kind = copy_kind(alloc, &e.kind)?;
+    let (ty, kind) = both(copy_ty(alloc, &e.ty), copy_kind(alloc, &e.kind))?;
     Ok(Expr {
         ty,
         span: e.span,
@@ -58,8 +58,7 @@ fn copy_kind(alloc: Global, kind: &ExprKind) -> Result<ExprKind, AllocError>
             size,
             bound,
         } => {
-            let base = copy_boxed(alloc, base)?;
-            let index = copy_boxed(alloc, index)?;
+            let (base, index) = both(copy_boxed(alloc, base), copy_boxed(alloc, index))?;
             Ok(ExprKind::Index {
                 base,
                 index,
@@ -76,8 +75,7 @@ fn copy_kind(alloc: Global, kind: &ExprKind) -> Result<ExprKind, AllocError>
             place: copy_boxed(alloc, place)?,
         }),
         ExprKind::Write { kind, place, value } => {
-            let place = copy_boxed(alloc, place)?;
-            let value = copy_boxed(alloc, value)?;
+            let (place, value) = both(copy_boxed(alloc, place), copy_boxed(alloc, value))?;
             Ok(ExprKind::Write {
                 kind: *kind,
                 place,
@@ -85,8 +83,7 @@ fn copy_kind(alloc: Global, kind: &ExprKind) -> Result<ExprKind, AllocError>
             })
         }
         ExprKind::FetchAdd { place, value } => {
-            let place = copy_boxed(alloc, place)?;
-            let value = copy_boxed(alloc, value)?;
+            let (place, value) = both(copy_boxed(alloc, place), copy_boxed(alloc, value))?;
             Ok(ExprKind::FetchAdd { place, value })
         }
         ExprKind::Purge { place } => Ok(ExprKind::Purge {
@@ -98,8 +95,7 @@ fn copy_kind(alloc: Global, kind: &ExprKind) -> Result<ExprKind, AllocError>
             place,
             value,
         } => {
-            let place = copy_boxed(alloc, place)?;
-            let value = copy_boxed(alloc, value)?;
+            let (place, value) = both(copy_boxed(alloc, place), copy_boxed(alloc, value))?;
             Ok(ExprKind::Update {
                 op: *op,
                 post: *post,
@@ -112,29 +108,24 @@ fn copy_kind(alloc: Global, kind: &ExprKind) -> Result<ExprKind, AllocError>
             of: copy_boxed(alloc, of)?,
         }),
         ExprKind::Binary { op, a, b } => {
-            let a = copy_boxed(alloc, a)?;
-            let b = copy_boxed(alloc, b)?;
+            let (a, b) = both(copy_boxed(alloc, a), copy_boxed(alloc, b))?;
             Ok(ExprKind::Binary { op: *op, a, b })
         }
         ExprKind::And(a, b) => {
-            let a = copy_boxed(alloc, a)?;
-            let b = copy_boxed(alloc, b)?;
+            let (a, b) = both(copy_boxed(alloc, a), copy_boxed(alloc, b))?;
             Ok(ExprKind::And(a, b))
         }
         ExprKind::Or(a, b) => {
-            let a = copy_boxed(alloc, a)?;
-            let b = copy_boxed(alloc, b)?;
+            let (a, b) = both(copy_boxed(alloc, a), copy_boxed(alloc, b))?;
             Ok(ExprKind::Or(a, b))
         }
         ExprKind::Cond { test, then, other } => {
-            let test = copy_boxed(alloc, test)?;
-            let then = copy_boxed(alloc, then)?;
-            let other = copy_boxed(alloc, other)?;
+            let (test, then) = both(copy_boxed(alloc, test), copy_boxed(alloc, then))?;
+            let (other, (test, then)) = kept(copy_boxed(alloc, other), (test, then))?;
             Ok(ExprKind::Cond { test, then, other })
         }
         ExprKind::Comma(a, b) => {
-            let a = copy_boxed(alloc, a)?;
-            let b = copy_boxed(alloc, b)?;
+            let (a, b) = both(copy_boxed(alloc, a), copy_boxed(alloc, b))?;
             Ok(ExprKind::Comma(a, b))
         }
         ExprKind::Call { func, args } => Ok(ExprKind::Call {

@@ -5,6 +5,7 @@ ghost use Rattle.std.specs.Prelude.{◌≡◌, IfOk};
 use crate::expr::copy_expr;
 use sqlite_items::{Boxed, Items};
 use std::alloc::{AllocError, Global};
+use xc_hold::{both, kept};
 use xc_tree::{Capture, Expr, Pragmas, Stmt, StmtKind};
 
 /// A copy of what the pragmas before a loop set.
@@ -80,9 +81,8 @@ fn copy_head(
 ) -> Result<Head, AllocError>
     ensures { IfOk result (λ r. (r.test ≡ test.now) × (r.step ≡ step.now) × (r.pragmas ≡ pragmas.now)) }
 {
-    let test = copy_maybe(alloc, test)?;
-    let step = copy_maybe(alloc, step)?;
-    let pragmas = copy_pragmas(alloc, pragmas)?;
+    let (test, step) = both(copy_maybe(alloc, test), copy_maybe(alloc, step))?;
+    let (pragmas, (test, step)) = kept(copy_pragmas(alloc, pragmas), (test, step))?;
     Ok(Head {
         test,
         step,
@@ -134,8 +134,7 @@ fn copy_stmt_kind(alloc: Global, kind: &StmtKind) -> Result<StmtKind, AllocError
             then,
             other: None,
         } => {
-            let then = copy_boxed_stmt(alloc, then)?;
-            let test = copy_expr(alloc, test)?;
+            let (then, test) = both(copy_boxed_stmt(alloc, then), copy_expr(alloc, test))?;
             Ok(StmtKind::If {
                 test,
                 then,
@@ -147,9 +146,8 @@ fn copy_stmt_kind(alloc: Global, kind: &StmtKind) -> Result<StmtKind, AllocError
             then,
             other: Some(other),
         } => {
-            let then = copy_boxed_stmt(alloc, then)?;
-            let other = copy_boxed_stmt(alloc, other)?;
-            let test = copy_expr(alloc, test)?;
+            let (then, other) = both(copy_boxed_stmt(alloc, then), copy_boxed_stmt(alloc, other))?;
+            let (test, (then, other)) = kept(copy_expr(alloc, test), (then, other))?;
             Ok(StmtKind::If {
                 test,
                 then,
@@ -165,9 +163,8 @@ fn copy_stmt_kind(alloc: Global, kind: &StmtKind) -> Result<StmtKind, AllocError
             body,
             pragmas,
         } => {
-            let init = copy_block(alloc, init)?;
-            let body = copy_boxed_stmt(alloc, body)?;
-            let head = copy_head(alloc, test, step, pragmas)?;
+            let (init, body) = both(copy_block(alloc, init), copy_boxed_stmt(alloc, body))?;
+            let (head, (init, body)) = kept(copy_head(alloc, test, step, pragmas), (init, body))?;
             let Head {
                 test,
                 step,
@@ -191,9 +188,8 @@ fn copy_stmt_kind(alloc: Global, kind: &StmtKind) -> Result<StmtKind, AllocError
             captures,
             body,
         } => {
-            let body = copy_boxed_stmt(alloc, body)?;
-            let place = copy_expr(alloc, place)?;
-            let captures = copy_captures(alloc, captures)?;
+            let (body, place) = both(copy_boxed_stmt(alloc, body), copy_expr(alloc, place))?;
+            let (captures, (body, place)) = kept(copy_captures(alloc, captures), (body, place))?;
             Ok(StmtKind::Future {
                 place,
                 captures,

@@ -10,6 +10,7 @@ use crate::found::{Found, Known};
 use sqlite_items::Boxed;
 use std::alloc::{AllocError, Global};
 use xc_copy::copy_ty;
+use xc_hold::kept;
 use xc_span::Span;
 use xc_tree::{Expr, ExprKind, Ty};
 
@@ -56,13 +57,19 @@ pub fn value_from(
             made: None,
         }),
         Some(kind) => {
-            let same = copy_ty(alloc, &ty)?;
+            let (same, (ty, kind)) = kept(copy_ty(alloc, &ty), (ty, kind))?;
             Ok(Found {
                 known: Known::Value(ty),
                 made: Some(typed(span, same, kind)),
             })
         }
     }
+}
+
+fn pointer_to(alloc: Global, ty: &Ty) -> Result<Ty, AllocError>
+    ensures { IfOk result (λ r. r ≡ Ty.Ptr ty.now) }
+{
+    Ok(Ty::Ptr(Boxed::new(alloc, copy_ty(alloc, ty)?)?))
 }
 
 /// The place of an object of this type.
@@ -82,7 +89,7 @@ pub fn place_from(
             made: None,
         }),
         Some(kind) => {
-            let pointer = Ty::Ptr(Boxed::new(alloc, copy_ty(alloc, &ty)?)?);
+            let (pointer, (ty, kind)) = kept(pointer_to(alloc, &ty), (ty, kind))?;
             Ok(Found {
                 known: Known::Place { ty, within },
                 made: Some(typed(span, pointer, kind)),
@@ -103,9 +110,12 @@ pub fn declared_place(
     ensures { IfOk result (λ r. r ≡ making.declared_place span (option_copied ty.entry) within kind) }
 {
     match ty {
-        None => Ok(unknown_place()),
+        None => {
+            drop(kind);
+            Ok(unknown_place())
+        }
         Some(ty) => {
-            let ty = copy_ty(alloc, ty)?;
+            let (ty, kind) = kept(copy_ty(alloc, ty), kind)?;
             place_from(alloc, span, ty, within, kind)
         }
     }
@@ -125,11 +135,15 @@ pub fn found_by(
 {
     match ruling {
         None => {
+            drop(kind);
             note_type(first, span);
             Ok(unknown_value())
         }
         Some(Known::Value(ty)) => value_from(alloc, span, ty, kind),
-        Some(_) => Ok(unknown_value()),
+        Some(other) => {
+            drop((other, kind));
+            Ok(unknown_value())
+        }
     }
 }
 
@@ -147,11 +161,15 @@ pub fn place_by(
 {
     match ruling {
         None => {
+            drop(kind);
             note_type(first, span);
             Ok(unknown_place())
         }
         Some(Known::Place { ty, within }) => place_from(alloc, span, ty, within, kind),
-        Some(_) => Ok(unknown_place()),
+        Some(other) => {
+            drop((other, kind));
+            Ok(unknown_place())
+        }
     }
 }
 

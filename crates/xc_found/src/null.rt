@@ -8,6 +8,7 @@ use crate::make::typed;
 use crate::types::{is_number, is_pointer};
 use std::alloc::{AllocError, Global};
 use xc_copy::copy_ty;
+use xc_hold::both;
 use xc_loop::constant;
 use xc_tree::{Expr, ExprKind, Ty};
 
@@ -44,14 +45,18 @@ pub fn is_null(found: &Found) -> bool
 fn null(alloc: Global, to: &Ty, made: Option<Expr>) -> Result<Found, AllocError>
     ensures { IfOk result (λ r. r ≡ nulls.null to.now made) }
 {
-    let known = Known::Value(copy_ty(alloc, to)?);
     match made {
-        None => Ok(Found { known, made: None }),
+        None => Ok(Found {
+            known: Known::Value(copy_ty(alloc, to)?),
+            made: None,
+        }),
         Some(e) => {
-            let ty = copy_ty(alloc, to)?;
+            let span = e.span;
+            drop(e);
+            let (ty, same) = both(copy_ty(alloc, to), copy_ty(alloc, to))?;
             Ok(Found {
-                known,
-                made: Some(typed(e.span, ty, ExprKind::Const(0))),
+                known: Known::Value(ty),
+                made: Some(typed(span, same, ExprKind::Const(0))),
             })
         }
     }
@@ -63,7 +68,9 @@ pub fn given(alloc: Global, to: &Ty, found: Found) -> Result<Found, AllocError>
     ensures { IfOk result (λ r. r ≡ nulls.given to.now found) }
 {
     if is_pointer(to) && is_null(&found) {
-        return null(alloc, to, found.made);
+        let Found { known, made } = found;
+        drop(known);
+        return null(alloc, to, made);
     }
     Ok(found)
 }

@@ -11,6 +11,7 @@ use crate::make::{typed, unknown_value, value_from};
 use crate::size::cells;
 use sqlite_items::Boxed;
 use std::alloc::{AllocError, Global};
+use xc_hold::{both, kept};
 use xc_span::Span;
 use xc_tree::{Expr, ExprKind, Ty};
 
@@ -29,7 +30,7 @@ fn read_of(alloc: Global, made: Option<Expr>) -> Result<Option<ExprKind>, AllocE
 fn read(alloc: Global, span: Span, ty: Ty, made: Option<Expr>) -> Result<Found, AllocError>
     ensures { IfOk result (λ r. r ≡ values.read span ty made) }
 {
-    let kind = read_of(alloc, made)?;
+    let (kind, ty) = kept(read_of(alloc, made), ty)?;
     value_from(alloc, span, ty, kind)
 }
 
@@ -45,10 +46,11 @@ fn first_element(
     match made {
         None => Ok(None),
         Some(e) => {
-            let zero = Boxed::new(alloc, typed(span, Ty::Int, ExprKind::Const(0)))?;
+            let zero = Boxed::new(alloc, typed(span, Ty::Int, ExprKind::Const(0)));
+            let (base, index) = both(Boxed::new(alloc, e), zero)?;
             Ok(Some(ExprKind::Index {
-                base: Boxed::new(alloc, e)?,
-                index: zero,
+                base,
+                index,
                 size,
                 bound: Some(bound),
             }))
@@ -84,6 +86,7 @@ fn held(
     match ty {
         Ty::Array(bound, of) => {
             if within {
+                drop((of, made));
                 return Ok(unknown_value());
             }
             decayed(alloc, sizes, span, bound, of, made)
@@ -141,7 +144,10 @@ pub fn rvalue(
         note_type(first, span);
     }
     match known {
-        Known::Unknown { .. } => Ok(unknown_value()),
+        Known::Unknown { place: _ } => {
+            drop(made);
+            Ok(unknown_value())
+        }
         Known::Value(ty) => Ok(Found {
             known: Known::Value(ty),
             made,

@@ -9,7 +9,7 @@ use crate::affine::{Affine, Var};
 use crate::region::{Range, Region, Tie};
 
 /// The least and the greatest of some values.
-#[derive(Clone, Copy, Debug, PartialEq, Eq)]
+#[derive(Clone, Copy)]
 struct Extent {
     least: i128,
     most: i128,
@@ -40,7 +40,7 @@ impl Extent {
 }
 
 /// A linear function of one value that lies in a range.
-#[derive(Clone, Copy, Debug, PartialEq, Eq)]
+#[derive(Clone, Copy)]
 struct Line {
     coeff: i64,
     shift: i128,
@@ -107,7 +107,7 @@ impl Line {
 }
 
 /// What a variable is multiplied with in two forms.
-#[derive(Clone, Copy, Debug, PartialEq, Eq)]
+#[derive(Clone, Copy)]
 struct Slopes {
     first: i64,
     second: i64,

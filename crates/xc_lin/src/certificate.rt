@@ -3,7 +3,7 @@ use crate::LoopId;
 use sqlite_items::Items;
 
 /// How a loop, or a part of one, is run, and by which rule. The listing has a letter for each.
-#[derive(Clone, Copy, Debug, PartialEq, Eq)]
+#[derive(Clone, Copy)]
 pub enum Letter {
     /// `X`: serial by pragma.
     Pragma,
@@ -38,7 +38,7 @@ pub enum Letter {
 }
 
 /// Why two references do not depend in one direction. A number is that of a dimension.
-#[derive(Clone, Copy, Debug, PartialEq, Eq)]
+#[derive(Clone, Copy)]
 pub enum Why {
     /// Their roots are two named objects.
     Root,
@@ -61,7 +61,7 @@ pub enum Why {
 }
 
 /// The operator of a reduction.
-#[derive(Clone, Copy, Debug, PartialEq, Eq)]
+#[derive(Clone, Copy)]
 pub enum Op {
     /// `+`
     Add,
@@ -80,7 +80,7 @@ pub enum Op {
 }
 
 /// What a parallel part does with an assigned scalar.
-#[derive(Clone, Copy, Debug, PartialEq, Eq)]
+#[derive(Clone, Copy)]
 pub enum Class {
     /// Each iteration has its own.
     Private,
@@ -92,7 +92,7 @@ pub enum Class {
 
 /// The references `a` and `b` with a reason for each direction: `low` where the iteration of `a` is
 /// the earlier one.
-#[derive(Clone, Copy, Debug, PartialEq, Eq)]
+#[derive(Clone, Copy)]
 pub struct PairCert {
     pub a: u32,
     pub b: u32,
@@ -101,7 +101,7 @@ pub struct PairCert {
 }
 
 /// A scalar of the function, by its number among the locals, and its class.
-#[derive(Clone, Copy, Debug, PartialEq, Eq)]
+#[derive(Clone, Copy)]
 pub struct ScalarCert {
     pub local: u32,
     pub class: Class,
@@ -119,7 +119,7 @@ pub struct PartCert {
 
 /// The references `a` of a later part and `b` of an earlier one, with the reason for the direction in
 /// which the iteration of `a` is the earlier one.
-#[derive(Clone, Copy, Debug, PartialEq, Eq)]
+#[derive(Clone, Copy)]
 pub struct CrossCert {
     pub a: u32,
     pub b: u32,

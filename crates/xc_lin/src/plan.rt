@@ -5,7 +5,7 @@ use sqlite_items::Items;
 use xc_tree::{NotNormal, Schedule};
 
 /// How the iterations of a parallel loop are dealt out, and how many streams are asked for.
-#[derive(Clone, Copy, Debug, PartialEq, Eq)]
+#[derive(Clone, Copy)]
 pub struct Dealing {
     pub schedule: Schedule,
     /// From 1 to 1,024.
@@ -13,7 +13,7 @@ pub struct Dealing {
 }
 
 /// What keeps a loop from being analysed.
-#[derive(Clone, Copy, Debug, PartialEq, Eq)]
+#[derive(Clone, Copy)]
 pub enum Obstacle {
     /// It is not in normal form, for this reason.
     Form(NotNormal),
@@ -22,7 +22,7 @@ pub enum Obstacle {
 }
 
 /// A variable that the listing names, by its number.
-#[derive(Clone, Copy, Debug, PartialEq, Eq)]
+#[derive(Clone, Copy)]
 pub enum Variable {
     /// A local of the loop's function.
     Local(u32),
@@ -31,7 +31,7 @@ pub enum Variable {
 }
 
 /// The statements `first` to `end` - 1 of a distributed loop's body, and how they are run.
-#[derive(Clone, Copy, Debug, PartialEq, Eq)]
+#[derive(Clone, Copy)]
 pub struct Part {
     pub first: u32,
     pub end: u32,
@@ -39,7 +39,7 @@ pub struct Part {
 }
 
 /// Two references that may depend, by their numbers, and a byte offset in the line of each.
-#[derive(Clone, Copy, Debug, PartialEq, Eq)]
+#[derive(Clone, Copy)]
 pub struct Conflict {
     pub a: u32,
     pub b: u32,
@@ -99,7 +99,7 @@ pub enum Reason {
 }
 
 /// A value that the guard of a loop tests at the loop's entry.
-#[derive(Clone, Copy, Debug, PartialEq, Eq)]
+#[derive(Clone, Copy)]
 pub enum Operand {
     /// The value of a local.
     Local(u32),
@@ -124,7 +124,7 @@ pub struct Guard {
 }
 
 /// Where a part stands of the right side of a recurrence.
-#[derive(Clone, Copy, Debug, PartialEq, Eq)]
+#[derive(Clone, Copy)]
 pub enum Side {
     /// Left of the other operand.
     Left,
@@ -135,7 +135,7 @@ pub enum Side {
 }
 
 /// What a recurrence computes.
-#[derive(Clone, Copy, Debug, PartialEq, Eq)]
+#[derive(Clone, Copy)]
 pub enum Target {
     /// A local.
     Scalar(u32),
@@ -145,7 +145,7 @@ pub enum Target {
 
 /// A linear recurrence y = c * y + e of the statements `first` to `end` - 1. `c` and `e` tell on which
 /// side of the product and of the sum they stand, and `minus` that the sum is a difference.
-#[derive(Clone, Copy, Debug, PartialEq, Eq)]
+#[derive(Clone, Copy)]
 pub struct Recurrence {
     pub first: u32,
     pub end: u32,
@@ -157,14 +157,14 @@ pub struct Recurrence {
 }
 
 /// A local into which the iterations' values are combined.
-#[derive(Clone, Copy, Debug, PartialEq, Eq)]
+#[derive(Clone, Copy)]
 pub struct Reduction {
     pub local: u32,
     pub op: Op,
 }
 
 /// What is found out of a scalar that a loop assigns.
-#[derive(Clone, Copy, Debug, PartialEq, Eq)]
+#[derive(Clone, Copy)]
 pub enum Found {
     /// Each read follows an assignment of the same iteration; `last` where its last value is kept.
     Private { last: bool },

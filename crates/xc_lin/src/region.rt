@@ -6,7 +6,7 @@ use crate::affine::Var;
 use sqlite_items::Items;
 
 /// The values from `lo` to `hi`.
-#[derive(Clone, Copy, Debug, PartialEq, Eq)]
+#[derive(Clone, Copy)]
 pub struct Range {
     pub lo: i64,
     pub hi: i64,
@@ -37,7 +37,7 @@ pub struct Region {
 }
 
 /// How the values of a variable at two references are bound to each other.
-#[derive(Clone, Copy, Debug, PartialEq, Eq)]
+#[derive(Clone, Copy)]
 pub enum Tie {
     /// Not at all.
     Apart,

@@ -8,6 +8,7 @@ ghost use Rattle.xc_lower.specs.Lowered.{value_of, lowering, lowering_kind, lowe
 use sqlite_items::{Boxed, Items};
 use std::alloc::{AllocError, Global};
 use xc_copy::copy_ty;
+use xc_hold::{both, kept};
 use xc_tree::{Expr, ExprKind, Ty};
 use xc_word::Kind;
 
@@ -58,7 +59,10 @@ fn read_of(kind: Kind, value: Option<u32>, place: Boxed<Expr>) -> ExprKind
     ensures { result ≡ read_of kind value place }
 {
     match (kind, value) {
-        (Kind::ReadXx, Some(x)) => ExprKind::Local(x),
+        (Kind::ReadXx, Some(x)) => {
+            drop(place);
+            ExprKind::Local(x)
+        }
         _ => ExprKind::Read { kind, place },
     }
 }
@@ -67,7 +71,10 @@ fn written_of(kind: Kind, local: Option<u32>, place: Boxed<Expr>, value: Boxed<E
     ensures { result ≡ written_of kind local place value }
 {
     match (kind, local) {
-        (Kind::WriteXf, Some(local)) => ExprKind::Set { local, value },
+        (Kind::WriteXf, Some(local)) => {
+            drop(place);
+            ExprKind::Set { local, value }
+        }
         _ => ExprKind::Write { kind, place, value },
     }
 }
@@ -82,7 +89,11 @@ fn updated_of(
 {
     match value {
         None => Ok(place),
-        Some(x) => Boxed::new(alloc, variable(alloc, x, place.get())?),
+        Some(x) => {
+            let (variable, place) = kept(variable(alloc, x, place.get()), place)?;
+            drop(place);
+            Boxed::new(alloc, variable)
+        }
     }
 }
 
@@ -91,8 +102,7 @@ fn updated_of(
 pub fn make_expr(alloc: Global, addressed: &[bool], e: &Expr) -> Result<Expr, AllocError>
     ensures { IfOk result (λ r. r ≡ lowered addressed.now e.now) }
 {
-    let ty = copy_ty(alloc, &e.ty)?;
-    let kind = lower_kind(alloc, addressed, &e.kind)?;
+    let (ty, kind) = both(copy_ty(alloc, &e.ty), lower_kind(alloc, addressed, &e.kind))?;
     Ok(Expr {
         ty,
         span: e.span,
@@ -146,8 +156,10 @@ fn lower_kind(alloc: Global, addressed: &[bool], kind: &ExprKind) -> Result<Expr
             size,
             bound,
         } => {
-            let base = lower_boxed(alloc, addressed, base)?;
-            let index = lower_boxed(alloc, addressed, index)?;
+            let (base, index) = both(
+                lower_boxed(alloc, addressed, base),
+                lower_boxed(alloc, addressed, index),
+            )?;
             Ok(ExprKind::Index {
                 base,
                 index,
@@ -166,13 +178,17 @@ fn lower_kind(alloc: Global, addressed: &[bool], kind: &ExprKind) -> Result<Expr
         }
         ExprKind::Write { kind, place, value } => {
             let local = value_at(addressed, place.get());
-            let place = lower_boxed(alloc, addressed, place)?;
-            let value = lower_boxed(alloc, addressed, value)?;
+            let (place, value) = both(
+                lower_boxed(alloc, addressed, place),
+                lower_boxed(alloc, addressed, value),
+            )?;
             Ok(written_of(*kind, local, place, value))
         }
         ExprKind::FetchAdd { place, value } => {
-            let place = lower_boxed(alloc, addressed, place)?;
-            let value = lower_boxed(alloc, addressed, value)?;
+            let (place, value) = both(
+                lower_boxed(alloc, addressed, place),
+                lower_boxed(alloc, addressed, value),
+            )?;
             Ok(ExprKind::FetchAdd { place, value })
         }
         ExprKind::Purge { place } => Ok(ExprKind::Purge {
@@ -186,8 +202,8 @@ fn lower_kind(alloc: Global, addressed: &[bool], kind: &ExprKind) -> Result<Expr
         } => {
             let local = value_at(addressed, place.get());
             let place = lower_boxed(alloc, addressed, place)?;
-            let place = updated_of(alloc, local, place)?;
-            let value = lower_boxed(alloc, addressed, value)?;
+            let place = updated_of(alloc, local, place);
+            let (place, value) = both(place, lower_boxed(alloc, addressed, value))?;
             Ok(ExprKind::Update {
                 op: *op,
                 post: *post,
@@ -200,29 +216,39 @@ fn lower_kind(alloc: Global, addressed: &[bool], kind: &ExprKind) -> Result<Expr
             of: lower_boxed(alloc, addressed, of)?,
         }),
         ExprKind::Binary { op, a, b } => {
-            let a = lower_boxed(alloc, addressed, a)?;
-            let b = lower_boxed(alloc, addressed, b)?;
+            let (a, b) = both(
+                lower_boxed(alloc, addressed, a),
+                lower_boxed(alloc, addressed, b),
+            )?;
             Ok(ExprKind::Binary { op: *op, a, b })
         }
         ExprKind::And(a, b) => {
-            let a = lower_boxed(alloc, addressed, a)?;
-            let b = lower_boxed(alloc, addressed, b)?;
+            let (a, b) = both(
+                lower_boxed(alloc, addressed, a),
+                lower_boxed(alloc, addressed, b),
+            )?;
             Ok(ExprKind::And(a, b))
         }
         ExprKind::Or(a, b) => {
-            let a = lower_boxed(alloc, addressed, a)?;
-            let b = lower_boxed(alloc, addressed, b)?;
+            let (a, b) = both(
+                lower_boxed(alloc, addressed, a),
+                lower_boxed(alloc, addressed, b),
+            )?;
             Ok(ExprKind::Or(a, b))
         }
         ExprKind::Cond { test, then, other } => {
-            let test = lower_boxed(alloc, addressed, test)?;
-            let then = lower_boxed(alloc, addressed, then)?;
-            let other = lower_boxed(alloc, addressed, other)?;
+            let (test, then) = both(
+                lower_boxed(alloc, addressed, test),
+                lower_boxed(alloc, addressed, then),
+            )?;
+            let (other, (test, then)) = kept(lower_boxed(alloc, addressed, other), (test, then))?;
             Ok(ExprKind::Cond { test, then, other })
         }
         ExprKind::Comma(a, b) => {
-            let a = lower_boxed(alloc, addressed, a)?;
-            let b = lower_boxed(alloc, addressed, b)?;
+            let (a, b) = both(
+                lower_boxed(alloc, addressed, a),
+                lower_boxed(alloc, addressed, b),
+            )?;
             Ok(ExprKind::Comma(a, b))
         }
         ExprKind::Call { func, args } => Ok(ExprKind::Call {

@@ -7,6 +7,7 @@ use crate::expr::make_expr;
 use sqlite_items::{Boxed, Items};
 use std::alloc::{AllocError, Global};
 use xc_copy::copy_pragmas;
+use xc_hold::{both, kept};
 use xc_tree::{Capture, Expr, Pragmas, Stmt, StmtKind};
 
 fn lower_maybe(
@@ -83,9 +84,11 @@ fn lower_head(
     ensures { IfOk result (λ r. (r.test ≡ option_map (lowered addressed.now) test.now)
         × (r.step ≡ option_map (lowered addressed.now) step.now) × (r.pragmas ≡ pragmas.now)) }
 {
-    let test = lower_maybe(alloc, addressed, test)?;
-    let step = lower_maybe(alloc, addressed, step)?;
-    let pragmas = copy_pragmas(alloc, pragmas)?;
+    let (test, step) = both(
+        lower_maybe(alloc, addressed, test),
+        lower_maybe(alloc, addressed, step),
+    )?;
+    let (pragmas, (test, step)) = kept(copy_pragmas(alloc, pragmas), (test, step))?;
     Ok(Head {
         test,
         step,
@@ -149,8 +152,10 @@ fn lower_stmt_kind(
             then,
             other: None,
         } => {
-            let then = lower_boxed_stmt(alloc, addressed, then)?;
-            let test = make_expr(alloc, addressed, test)?;
+            let (then, test) = both(
+                lower_boxed_stmt(alloc, addressed, then),
+                make_expr(alloc, addressed, test),
+            )?;
             Ok(StmtKind::If {
                 test,
                 then,
@@ -162,9 +167,11 @@ fn lower_stmt_kind(
             then,
             other: Some(other),
         } => {
-            let then = lower_boxed_stmt(alloc, addressed, then)?;
-            let other = lower_boxed_stmt(alloc, addressed, other)?;
-            let test = make_expr(alloc, addressed, test)?;
+            let (then, other) = both(
+                lower_boxed_stmt(alloc, addressed, then),
+                lower_boxed_stmt(alloc, addressed, other),
+            )?;
+            let (test, (then, other)) = kept(make_expr(alloc, addressed, test), (then, other))?;
             Ok(StmtKind::If {
                 test,
                 then,
@@ -206,9 +213,12 @@ fn lower_stmt_kind(
             captures,
             body,
         } => {
-            let body = lower_boxed_stmt(alloc, addressed, body)?;
-            let place = make_expr(alloc, addressed, place)?;
-            let captures = lower_captures(alloc, addressed, captures)?;
+            let (body, place) = both(
+                lower_boxed_stmt(alloc, addressed, body),
+                make_expr(alloc, addressed, place),
+            )?;
+            let captures = lower_captures(alloc, addressed, captures);
+            let (captures, (body, place)) = kept(captures, (body, place))?;
             Ok(StmtKind::Future {
                 place,
                 captures,

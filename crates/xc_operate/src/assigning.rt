@@ -6,12 +6,12 @@ ghost use Rattle.xc_tree.specs.Typed.{sort_of};
 ghost use Rattle.xc_found.specs.Least.{least_from};
 ghost use Rattle.xc_operate.specs.Operators as spec;
 
-use crate::double::kept;
 use crate::kinds::{Pair, paired};
 use crate::rulings::{assign_ruling, target, update_ruling};
 use crate::single::number;
 use std::alloc::{AllocError, Global};
 use xc_found::{Fault, Found, given, may_be_place};
+use xc_hold::kept;
 use xc_span::Span;
 use xc_tree::{BinOp, Ty};
 
@@ -37,11 +37,13 @@ pub fn assign(
     ensures part { IfOk result (λ r. r ≡ spec.assign_part span to value) }
     ensures first { OnOk result (first.new ≡ least_from first.old (spec.assign_faults span to value)) }
 {
-    let unsure = may_be_place(&to.known);
-    let ty = target(to.known);
-    let value = suited(alloc, ty.as_ref(), value)?;
+    let Found { known, made } = to;
+    let unsure = may_be_place(&known);
+    let ty = target(known);
+    let (value, (ty, made)) = kept(suited(alloc, ty.as_ref(), value), (ty, made))?;
     let ruling = assign_ruling(unsure, ty, &value.known);
-    paired(alloc, span, ruling, Pair::Write, to.made, value.made, first)
+    drop(value.known);
+    paired(alloc, span, ruling, Pair::Write, made, value.made, first)
 }
 
 #[tactic(auto, unfolding(crate::specs::Operators::update_part, crate::specs::Operators::update_faults))]
@@ -58,6 +60,7 @@ fn updated(
     ensures first { OnOk result (first.new ≡ least_from first.old (spec.update_faults span op to value)) }
 {
     let ruling = update_ruling(op, to.known, &value.known);
+    drop(value.known);
     paired(
         alloc,
         span,

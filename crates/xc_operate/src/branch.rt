@@ -4,12 +4,13 @@ ghost use Rattle.std.specs.Prelude.{◌≡◌, IfOk, OnOk};
 ghost use Rattle.xc_found.specs.Least.{least_from};
 ghost use Rattle.xc_operate.specs.Operators as spec;
 
-use crate::double::{evened, kept};
+use crate::double::evened;
 use crate::kinds::{Pair, cond_kind, paired};
 use crate::rulings::comma_ruling;
 use crate::verdict::{conditional_verdict, told};
 use std::alloc::{AllocError, Global};
 use xc_found::{Fault, Found, found_by, is_null};
+use xc_hold::kept;
 use xc_span::Span;
 
 /// The comma operator of two values.
@@ -24,8 +25,10 @@ pub fn comma(
     ensures part { IfOk result (λ r. r ≡ spec.comma_part span a b) }
     ensures first { OnOk result (first.new ≡ least_from first.old (spec.comma_faults span a b)) }
 {
-    let ruling = comma_ruling(&a.known, b.known);
-    paired(alloc, span, ruling, Pair::Comma, a.made, b.made, first)
+    let Found { known, made } = a;
+    let ruling = comma_ruling(&known, b.known);
+    drop(known);
+    paired(alloc, span, ruling, Pair::Comma, made, b.made, first)
 }
 
 #[tactic(auto, unfolding(crate::specs::Operators::chosen_part, crate::specs::Operators::chosen_faults))]
@@ -41,9 +44,11 @@ fn chosen(
     ensures first { OnOk result (first.new ≡ least_from first.old (spec.chosen_faults span test then other)) }
 {
     let nulls = (is_null(&then), is_null(&other));
-    let verdict = conditional_verdict(&test.known, &then.known, &other.known, nulls);
+    let Found { known, made } = test;
+    let verdict = conditional_verdict(&known, &then.known, &other.known, nulls);
+    drop(known);
     let ruling = told(verdict, then.known, other.known);
-    let kind = cond_kind(alloc, test.made, then.made, other.made)?;
+    let (kind, ruling) = kept(cond_kind(alloc, made, then.made, other.made), ruling)?;
     found_by(alloc, span, ruling, kind, first)
 }
 

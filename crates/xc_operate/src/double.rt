@@ -1,6 +1,6 @@
 //! Operators between two values.
 
-ghost use Rattle.std.specs.Prelude.{◌≡◌, IfOk, Ok, OnOk};
+ghost use Rattle.std.specs.Prelude.{◌≡◌, IfOk, OnOk};
 ghost use Rattle.xc_found.specs.Least.{least_from};
 ghost use Rattle.xc_found.specs.Nulls as nulls;
 ghost use Rattle.xc_operate.specs.Operators as spec;
@@ -9,19 +9,9 @@ use crate::kinds::{Pair, paired};
 use crate::verdict::{binary_verdict, told};
 use std::alloc::{AllocError, Global};
 use xc_found::{Fault, Found, against};
+use xc_hold::kept;
 use xc_span::Span;
 use xc_tree::BinOp;
-
-/// An outcome and a part beside it, which is dropped where memory is short.
-pub(crate) fn kept<T>(outcome: Result<T, AllocError>, part: Found) -> Result<(T, Found), AllocError>
-    ensures outcome { IfOk result (λ r. outcome ≡ Ok r.0) }
-    ensures part { IfOk result (λ r. r.1 ≡ part) }
-{
-    match outcome {
-        Ok(value) => Ok((value, part)),
-        Err(e) => Err(e),
-    }
-}
 
 /// Two values that stand beside each other: a constant 0 is null beside a pointer.
 pub(crate) fn evened(alloc: Global, a: Found, b: Found) -> Result<(Found, Found), AllocError>

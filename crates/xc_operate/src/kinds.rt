@@ -10,6 +10,7 @@ use crate::logic::Logic;
 use sqlite_items::Boxed;
 use std::alloc::{AllocError, Global};
 use xc_found::{Fault, Found, Known, found_by};
+use xc_hold::{both, kept};
 use xc_span::Span;
 use xc_tree::{BinOp, Expr, ExprKind, UnOp};
 
@@ -33,14 +34,16 @@ fn boxed(
     ensures { IfOk result (λ r. r ≡ making.both (λ x y. (x, y)) a b) }
 {
     match (a, b) {
-        (Some(a), Some(b)) => {
-            let a = Boxed::new(alloc, a)?;
-            let b = Boxed::new(alloc, b)?;
-            Ok(Some((a, b)))
-        }
+        (Some(a), Some(b)) => Ok(Some(both(Boxed::new(alloc, a), Boxed::new(alloc, b))?)),
         (None, None) => Ok(None),
-        (None, Some(_)) => Ok(None),
-        (Some(_), None) => Ok(None),
+        (None, Some(b)) => {
+            drop(b);
+            Ok(None)
+        }
+        (Some(a), None) => {
+            drop(a);
+            Ok(None)
+        }
     }
 }
 
@@ -95,7 +98,7 @@ pub(crate) fn paired(
     ensures part { IfOk result (λ r. r ≡ making.found_by span ruling (making.both (pair_kind form) a b)) }
     ensures first { OnOk result (first.new ≡ least_from first.old (making.faults_by span ruling)) }
 {
-    let kind = made_of(alloc, form, a, b)?;
+    let (kind, ruling) = kept(made_of(alloc, form, a, b), ruling)?;
     found_by(alloc, span, ruling, kind, first)
 }
 
@@ -124,12 +127,17 @@ pub(crate) fn cond_kind(
 ) -> Result<Option<ExprKind>, AllocError>
     ensures { IfOk result (λ r. r ≡ spec.cond_kind test a b) }
 {
-    let Some(test) = test else {
-        return Ok(None);
-    };
-    let test = Boxed::new(alloc, test)?;
-    match boxed(alloc, a, b)? {
-        None => Ok(None),
-        Some((then, other)) => Ok(Some(ExprKind::Cond { test, then, other })),
+    match test {
+        None => {
+            drop((a, b));
+            Ok(None)
+        }
+        Some(test) => {
+            let (test, branches) = both(Boxed::new(alloc, test), boxed(alloc, a, b))?;
+            match branches {
+                None => Ok(None),
+                Some((then, other)) => Ok(Some(ExprKind::Cond { test, then, other })),
+            }
+        }
     }
 }

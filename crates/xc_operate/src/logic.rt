@@ -33,5 +33,6 @@ pub fn logical(
     ensures first { OnOk result (first.new ≡ least_from first.old (spec.logical_faults span op a b)) }
 {
     let ruling = logic_ruling(&a.known, &b.known);
+    drop((a.known, b.known));
     paired(alloc, span, ruling, Pair::Logic(op), a.made, b.made, first)
 }

@@ -15,7 +15,12 @@ use xc_tree::{BinOp, Ty, UnOp};
 fn ruled(keeps: bool, ty: Ty) -> Option<Known>
     ensures { result ≡ spec.ruled keeps ty }
 {
-    if keeps { Some(Known::Value(ty)) } else { None }
+    if keeps {
+        Some(Known::Value(ty))
+    } else {
+        drop(ty);
+        None
+    }
 }
 
 #[tactic(auto, unfolding(crate::specs::Rulings::unruled))]
@@ -34,7 +39,11 @@ fn unary_type(op: UnOp, ty: Ty) -> Option<Known>
     ensures { result ≡ spec.unary_type op ty }
 {
     match op {
-        UnOp::Not => ruled(is_plain(&ty), Ty::Int),
+        UnOp::Not => {
+            let keeps = is_plain(&ty);
+            drop(ty);
+            ruled(keeps, Ty::Int)
+        }
         UnOp::Neg | UnOp::Complement | UnOp::Cast => ruled(is_number(&ty), ty),
     }
 }
@@ -56,7 +65,10 @@ pub(crate) fn unary_ruling(op: UnOp, of: Known) -> Option<Known>
     match of {
         Known::Unknown { place: _ } => Some(unary_unknown(op)),
         Known::Value(ty) => unary_type(op, ty),
-        Known::Place { ty: _, within: _ } => None,
+        Known::Place { ty, within: _ } => {
+            drop(ty);
+            None
+        }
     }
 }
 
@@ -84,7 +96,10 @@ pub(crate) fn comma_ruling(a: &Known, b: Known) -> Option<Known>
     match b {
         Known::Unknown { place: _ } => unruled(may_be_used(a)),
         Known::Value(ty) => ruled(may_be_used(a), ty),
-        Known::Place { ty: _, within: _ } => None,
+        Known::Place { ty, within: _ } => {
+            drop(ty);
+            None
+        }
     }
 }
 
@@ -109,7 +124,10 @@ pub(crate) fn target(to: Known) -> Option<Ty>
 {
     match to {
         Known::Unknown { place: _ } => None,
-        Known::Value(_) => None,
+        Known::Value(ty) => {
+            drop(ty);
+            None
+        }
         Known::Place { ty, within: _ } => unqualified(ty),
     }
 }
@@ -129,6 +147,7 @@ pub(crate) fn assign_ruling(unsure: bool, ty: Option<Ty>, value: &Known) -> Opti
     ensures { result ≡ cond unsure (spec.unruled (may_be is_plain value.now)) (spec.given_ruling ty value.now) }
 {
     if unsure {
+        drop(ty);
         return unruled(may_be_plain(value));
     }
     given_ruling(ty, value)
@@ -159,6 +178,7 @@ pub(crate) fn update_ruling(op: BinOp, to: Known, value: &Known) -> Option<Known
     ensures { result ≡ spec.update_ruling (sort_of op) to value.now }
 {
     if may_be_place(&to) {
+        drop(to);
         return unruled(may_be_number(value));
     }
     updated_ruling(op, target(to), value)

@@ -11,6 +11,7 @@ use xc_found::{
     Fault, Found, found_by, is_number_value, may_be_number, note_type, spanned, unknown_value,
     value_from,
 };
+use xc_hold::kept;
 use xc_span::Span;
 use xc_tree::{ExprKind, Ty, UnOp};
 
@@ -46,6 +47,7 @@ pub fn plus(span: Span, a: Found, first: &mut Option<Fault>) -> Found
     if is_number_value(&a.known) {
         return a;
     }
+    drop(a);
     unknown_value()
 }
 
@@ -62,7 +64,7 @@ pub fn unary(
     ensures first { OnOk result (first.new ≡ least_from first.old (spec.unary_faults span op a)) }
 {
     let ruling = unary_ruling(op, a.known);
-    let kind = unary_kind(alloc, op, a.made)?;
+    let (kind, ruling) = kept(unary_kind(alloc, op, a.made), ruling)?;
     found_by(alloc, span, ruling, kind, first)
 }
 
@@ -78,7 +80,9 @@ pub fn cast(
     ensures part { IfOk result (λ r. r ≡ spec.cast_part span to a) }
     ensures first { OnOk result (first.new ≡ least_from first.old (spec.cast_faults span to a)) }
 {
-    let kind = unary_kind(alloc, UnOp::Cast, a.made)?;
-    let ruling = cast_ruling(to, &a.known);
+    let Found { known, made } = a;
+    let ruling = cast_ruling(to, &known);
+    drop(known);
+    let (kind, ruling) = kept(unary_kind(alloc, UnOp::Cast, made), ruling)?;
     found_by(alloc, span, ruling, kind, first)
 }

@@ -60,9 +60,18 @@ pub(crate) fn told(verdict: Verdict, a: Known, b: Known) -> Option<Known>
     ensures { result ≡ told verdict a b }
 {
     match verdict {
-        Verdict::Left => Some(a),
-        Verdict::Right => Some(b),
-        Verdict::Other(f) => whole(f),
+        Verdict::Left => {
+            drop(b);
+            Some(a)
+        }
+        Verdict::Right => {
+            drop(a);
+            Some(b)
+        }
+        Verdict::Other(f) => {
+            drop((a, b));
+            whole(f)
+        }
     }
 }
 

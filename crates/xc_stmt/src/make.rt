@@ -6,6 +6,7 @@ ghost use Rattle.xc_stmt.specs.Making as spec;
 use crate::pragmas::Begun;
 use sqlite_items::{Boxed, Items};
 use std::alloc::{AllocError, Global};
+use xc_hold::kept;
 use xc_span::Span;
 use xc_tree::{Capture, Expr, LoopForm, Stmt, StmtKind};
 
@@ -122,13 +123,13 @@ fn if_of(
 ) -> Option<Stmt>
     ensures { result ≡ spec.if_made span test then other }
 {
-    let test = test?;
-    let then = then?;
-    let other = other?;
-    Some(Stmt {
-        span,
-        kind: StmtKind::If { test, then, other },
-    })
+    match test.zip(then).zip(other) {
+        None => None,
+        Some(((test, then), other)) => Some(Stmt {
+            span,
+            kind: StmtKind::If { test, then, other },
+        }),
+    }
 }
 
 pub(crate) fn if_made(
@@ -140,7 +141,7 @@ pub(crate) fn if_made(
 ) -> Result<Option<Stmt>, AllocError>
     ensures { IfOk result (λ r. r ≡ spec.if_made span test then other) }
 {
-    let then = boxed(alloc, then)?;
+    let (then, (test, other)) = kept(boxed(alloc, then), (test, other))?;
     if_then(alloc, span, test, then, other)
 }
 
@@ -154,7 +155,7 @@ fn if_then(
 ) -> Result<Option<Stmt>, AllocError>
     ensures { IfOk result (λ r. r ≡ spec.if_made span test then other) }
 {
-    let other = boxed_other(alloc, other)?;
+    let (other, (test, then)) = kept(boxed_other(alloc, other), (test, then))?;
     Ok(if_of(span, test, then, other))
 }
 
@@ -166,8 +167,10 @@ pub(crate) fn headed(
 ) -> Option<Header>
     ensures { result ≡ spec.headed init test step }
 {
-    let (init, (test, step)) = init.zip(test.zip(step))?;
-    Some(Header { init, test, step })
+    match init.zip(test.zip(step)) {
+        None => None,
+        Some((init, (test, step))) => Some(Header { init, test, step }),
+    }
 }
 
 #[tactic(auto, unfolding(crate::specs::Making::test_alone, crate::specs::Making::headed))]
@@ -194,7 +197,7 @@ pub(crate) fn loop_made(
 ) -> Result<Option<Stmt>, AllocError>
     ensures { IfOk result (λ r. r ≡ spec.loop_made span form begun header body) }
 {
-    let body = boxed(alloc, body)?;
+    let (body, (begun, header)) = kept(boxed(alloc, body), (begun, header))?;
     Ok(loop_of(span, form, begun, header, body))
 }
 
@@ -208,22 +211,28 @@ fn loop_of(
 ) -> Option<Stmt>
     ensures { result ≡ spec.loop_made span form begun header body }
 {
-    let header = header?;
-    let body = body?;
-    let Header { init, test, step } = header;
-    let Begun { id, pragmas } = begun;
-    Some(Stmt {
-        span,
-        kind: StmtKind::Loop {
-            id,
-            form,
-            init,
-            test,
-            step,
-            body,
-            pragmas,
-        },
-    })
+    match header.zip(body) {
+        None => {
+            drop(begun);
+            None
+        }
+        Some((header, body)) => {
+            let Header { init, test, step } = header;
+            let Begun { id, pragmas } = begun;
+            Some(Stmt {
+                span,
+                kind: StmtKind::Loop {
+                    id,
+                    form,
+                    init,
+                    test,
+                    step,
+                    body,
+                    pragmas,
+                },
+            })
+        }
+    }
 }
 
 pub(crate) fn future_made(
@@ -235,7 +244,7 @@ pub(crate) fn future_made(
 ) -> Result<Option<Stmt>, AllocError>
     ensures { IfOk result (λ r. r ≡ spec.future_made span place captures body) }
 {
-    let body = boxed(alloc, body)?;
+    let (body, (place, captures)) = kept(boxed(alloc, body), (place, captures))?;
     Ok(future_of(span, place, captures, body))
 }
 
@@ -248,15 +257,15 @@ fn future_of(
 ) -> Option<Stmt>
     ensures { result ≡ spec.future_made span place captures body }
 {
-    let place = place?;
-    let captures = captures?;
-    let body = body?;
-    Some(Stmt {
-        span,
-        kind: StmtKind::Future {
-            place,
-            captures,
-            body,
-        },
-    })
+    match place.zip(captures).zip(body) {
+        None => None,
+        Some(((place, captures), body)) => Some(Stmt {
+            span,
+            kind: StmtKind::Future {
+                place,
+                captures,
+                body,
+            },
+        }),
+    }
 }
