@@ -1,10 +1,10 @@
 -- Deeds that do not conflict can be exchanged, so a program is quiet where its deeds do not conflict.
 use Rattle.std.specs.Prelude.{Option, Some, None}
 use Rattle.std.proofs.Common.{◌≡◌, ℕ, refl, sym, subst}
-use Rattle.xc_history.specs.History.{after}
-use Rattle.xc_history.specs.Runs.{Program, Indep, Quiet}
-use Rattle.xc_history.proofs.OpenLoops.{Indep-sym}
-use Rattle.xc_history.proofs.Owner.{Is-along}
+use Rattle.xc_commute_histories.specs.History.{after}
+use Rattle.xc_commute_histories.specs.Runs.{Program, Indep, Quiet}
+use Rattle.xc_commute_histories.proofs.OpenLoops.{Indep-sym}
+use Rattle.xc_commute_histories.proofs.Owner.{Is-along}
 use Rattle.xc_word.specs.Cells.{Segments}
 use Rattle.xc_commute.specs.Threads.{Deed, Touches, Marks, Traps, after_deed, DeedsConflict, State, IsQuiet, ActsOnMemory}
 use Rattle.xc_commute.proofs.Touches.{independent}

@@ -3,8 +3,8 @@ use Rattle.std.specs.Prelude.{Some, slice_get, swap, filter}
 use Rattle.std.proofs.lemmas.List.{map-append, length-map}
 use Rattle.std.proofs.Common.{◌≡◌, ◌≢◌, ap₂, not, ℕ, suc, zero, ◌+◌, ◌<◌, List, [], ◌∷◌, ◌++◌, map, refl, ap, sym, ◌∙◌, Bool, true, false, cond, eqb, arith, add-one, length}
 use Rattle.std.proofs.lemmas.Option.{slice_get-map}
-use Rattle.xc_history.specs.History.{Apart, Each, gathered}
-use Rattle.xc_history.proofs.Forward.{swap_next, swap_is_next, play_swapped, play_gathered, GoesFirst}
+use Rattle.xc_commute_histories.specs.History.{Apart, Each, gathered}
+use Rattle.xc_commute_histories.proofs.Forward.{swap_next, swap_is_next, play_swapped, play_gathered, GoesFirst}
 use Rattle.xc_commute.specs.declared.events.Event.{Event}
 use Rattle.xc_commute.specs.Touch.{On}
 use Rattle.xc_commute.specs.Replay.{Answered, replay, step_of, thread_of, events_of, CanSwap, Keeps}

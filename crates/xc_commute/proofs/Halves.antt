@@ -4,7 +4,7 @@ use Rattle.std.proofs.Math.Seq.{drop-append_seam, take-append_seam}
 use Rattle.std.proofs.lemmas.List.{take_all, drop_all, take-append-drop}
 use Rattle.std.proofs.lemmas.List.Filters.{length-filter_both}
 use Rattle.std.proofs.lemmas.List.Elements.{filter-append}
-use Rattle.xc_history.specs.History.{of_owner, of_others}
+use Rattle.xc_commute_histories.specs.History.{of_owner, of_others}
 use Rattle.xc_commute.specs.declared.events.Event.{Event}
 use Rattle.xc_commute.specs.Replay.{thread_of}
 use borrow.Rule.Slice.PartMut.{put_mid, mid_of}

@@ -3,8 +3,8 @@ use Rattle.std.specs.Prelude.{Option, Some, None, slice_get, slice_set, replicat
 use Rattle.std.specs.Option.{option_map, option_and_then}
 use Rattle.std.specs.FinMap.{get, insert, remove}
 use Rattle.std.proofs.Common.{◌≡◌, ◌≢◌, ℕ, zero, suc, List, [], ◌∷◌, refl, ap, sym, ◌∙◌}
-use Rattle.xc_history.specs.History.{after, Is}
-use Rattle.xc_history.proofs.Places.{at_place, different, different_both}
+use Rattle.xc_commute_histories.specs.History.{after, Is}
+use Rattle.xc_commute_histories.proofs.Places.{at_place, different, different_both}
 use Rattle.xc_word.specs.declared.memory.Cell.{Cell}
 use Rattle.xc_word.specs.declared.memory.Access.{Access}
 use Rattle.xc_word.specs.Cells.{Segments, put_in, fresh}

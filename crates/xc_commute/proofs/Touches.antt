@@ -4,9 +4,9 @@ use Rattle.std.specs.Option.{option_map}
 use Rattle.std.specs.FinMap.{get}
 use Rattle.std.proofs.Common.{◌≡◌, ◌≢◌, ℕ, zero, suc, List, [], ◌∷◌, Bool, true, false, cond, refl, ap, sym, ◌∙◌, eqb, ◌⊎◌, inl, inr}
 use Rattle.std.proofs.lemmas.Bool.Decides.{eqb_tells}
-use Rattle.xc_history.specs.History.{after, Is}
-use Rattle.xc_history.specs.Runs.{Indep}
-use Rattle.xc_history.proofs.Places.{different, different_both, KeepsAll, reads_commute}
+use Rattle.xc_commute_histories.specs.History.{after, Is}
+use Rattle.xc_commute_histories.specs.Runs.{Indep}
+use Rattle.xc_commute_histories.proofs.Places.{different, different_both, KeepsAll, reads_commute}
 use Rattle.xc_word.specs.declared.memory.Cell.{Cell}
 use Rattle.xc_word.specs.declared.memory.Place.{Place}
 use Rattle.xc_word.specs.declared.memory.Access.{Access}

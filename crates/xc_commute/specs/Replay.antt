@@ -1,7 +1,7 @@
 -- Events replayed in the order of time.
 use Rattle.std.specs.Prelude.{◌≡◌, ◌≢◌, ℕ, Option, List, map}
 use Rattle.xc_word.specs.Cells.{Segments}
-use Rattle.xc_history.specs.History.{play}
+use Rattle.xc_commute_histories.specs.History.{play}
 use Rattle.xc_commute.specs.declared.events.Event.{Event}
 use Rattle.xc_commute.specs.Touch.{On, touched, Conflict}
 

@@ -1,7 +1,7 @@
 -- Programs whose threads act on tagged memory, and when their loops are quiet.
 use Rattle.std.specs.Prelude.{◌≡◌, ◌≢◌, ℕ, Option, Some, List}
 use Rattle.xc_word.specs.Cells.{Segments}
-use Rattle.xc_history.specs.Runs.{Stand, Free, erase, Program, Source, CellsAt}
+use Rattle.xc_commute_histories.specs.Runs.{Stand, Free, erase, Program, Source, CellsAt}
 use Rattle.xc_commute.specs.Touch.{Touch, touched, Conflict}
 
 -- a touch of memory with its answer, a mark that touches nothing, as the Enter of a loop or a spawn, or a trap

@@ -1,7 +1,7 @@
 //! A record of accesses in the order in which they were made.
 
 ghost use Rattle.std.specs.Prelude.{◌≡◌, ◌≢◌, ◌<◌, ◌+◌, ◌↔◌, ℕ, Some, IsTrue, swap, length, slice_get};
-ghost use Rattle.xc_history.specs.History.{of_owner, gathered};
+ghost use Rattle.xc_commute_histories.specs.History.{of_owner, gathered};
 ghost use Rattle.xc_commute.specs.Touch.{On, Conflict, is_read};
 ghost use Rattle.xc_commute.specs.Replay.{thread_of, CanSwap, Keeps};
 

@@ -1,8 +1,8 @@
 //! Programs of several threads over tagged memory, whose loops may run as teams.
 
 ghost use Rattle.xc_word.specs.Cells.{Segments};
-ghost use Rattle.xc_history.specs.Runs.{Program, OneLoop};
-ghost use Rattle.xc_history.specs.GoesBack.{GoesBack};
+ghost use Rattle.xc_commute_histories.specs.Runs.{Program, OneLoop};
+ghost use Rattle.xc_commute_histories.specs.GoesBack.{GoesBack};
 ghost use Rattle.xc_commute.specs.Threads.{Deed, State, IsTrap, IsQuiet, ActsOnMemory};
 
 /// A program, by its relations alone, and the cells of each loop at the memory of its Enter.

@@ -1,8 +1,8 @@
 -- What a source is compiled to, and why one is refused.
 use Rattle.std.specs.Prelude.{◌≡◌, ℕ, List, Option, Some, None}
-use Rattle.xc_span.specs.declared.Span.{Span}
-use Rattle.xc_span.specs.declared.Pos.{Pos}
-use Rattle.xc_span.specs.Place.{IsPosition}
+use Rattle.xc_text_place.specs.declared.Span.{Span}
+use Rattle.xc_text_place.specs.declared.Pos.{Pos}
+use Rattle.xc_text_place.specs.Place.{IsPosition}
 use Rattle.xc_lex.specs.declared.token.Token.{Token}
 use Rattle.xc_lex.specs.declared.lexer.LexFault.TheVariants as lex
 use Rattle.xc_lex.specs.Source.{AreTokens, FaultFits as IsLexFault}
@@ -13,9 +13,9 @@ use Rattle.xc_tree.specs.declared.tree.Tree.{Tree}
 use Rattle.xc_type.specs.declared.fault.CheckFault.TheVariants as check
 use Rattle.xc_type.specs.Checked.{IsTree, IsFault}
 use Rattle.xc_isa.specs.declared.code.Code.{Code}
-use Rattle.xc_thread.specs.Terms.{program_of}
-use Rattle.xc_emit.specs.Unbuilt.{unbuilt_of}
-use Rattle.xc_emit.specs.Faithful.{Faithful, NoStuck, Ends}
+use Rattle.xc_meaning.specs.Terms.{program_of}
+use Rattle.xc_gen.specs.Unbuilt.{unbuilt_of}
+use Rattle.xc_gen.specs.Faithful.{Faithful, NoStuck, Ends}
 use Rattle.xc_driver.specs.declared.compiler.Compiled.{Compiled}
 use Rattle.xc_driver.specs.declared.fault.RefusalKind.{RefusalKind}
 use Rattle.xc_driver.specs.declared.fault.RefusalKind.TheVariants.{Lex, Syntax, Depth, Name, Typing, Count, Unbuilt}

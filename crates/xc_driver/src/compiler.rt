@@ -8,12 +8,12 @@ ghost use Rattle.xc_driver.specs.Compiles as spec;
 
 use crate::fault::{CompileFault, Refusal, RefusalKind};
 use std::alloc::Global;
-use xc_emit::{code_of, unbuilt};
+use xc_gen::{code_of, unbuilt};
 use xc_isa::Code;
 use xc_lex::{LexFault, Tokens, lex};
 use xc_parse::{ParseFault, parse};
 use xc_raw::Raw;
-use xc_span::{Pos, position};
+use xc_text_place::{Pos, position};
 use xc_tree::Tree;
 use xc_type::{CheckFault, check};
 

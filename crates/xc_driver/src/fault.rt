@@ -4,7 +4,7 @@ ghost use Rattle.std.specs.Prelude.{◌≡◌};
 ghost use Rattle.xc_driver.specs.declared.fault.CompileFault.TheVariants.{NoMemory};
 
 use std::alloc::AllocError;
-use xc_span::Pos;
+use xc_text_place::Pos;
 
 /// The kinds of refusals, in the order in which they are asked.
 #[derive(Clone, Copy, Debug, PartialEq, Eq)]

@@ -4,7 +4,7 @@ use Rattle.std.specs.Prelude.{◌==◌, ◌⊎◌, slice_get, replicate}
 use Rattle.std.proofs.lemmas.Bool.{lt-ltb}
 use Rattle.xc_word.specs.declared.memory.Kind.{Kind}
 use Rattle.xc_word.specs.declared.memory.Access.{Access}
-use Rattle.xc_action.specs.World.{World, Request, On, Print, Begin, Stop, Tick, Reach, Free, Reply, Got, serve}
+use Rattle.xc_meaning_world.specs.World.{World, Request, On, Print, Begin, Stop, Tick, Reach, Free, Reply, Got, serve}
 use Rattle.xc_isa.specs.declared.code.Code.{Code}
 use Rattle.xc_isa.specs.declared.instr.Instr.{Instr}
 use Rattle.xc_isa.specs.declared.instr.TrapKind.TheVariants as trap

@@ -2,8 +2,8 @@
 use Rattle.std.specs.Prelude.{ℕ, suc, ◌+◌, ◌%◌, ◌^◌, ◌==◌, nat_lt, List, [], ◌∷◌, Option, Some, None, slice_get, map, if◌then◌else◌}
 use Rattle.xc_word.specs.declared.memory.Kind.{Kind}
 use Rattle.xc_word.specs.declared.memory.Kind.TheVariants.{ReadXx, ReadFe, ReadFf, WriteXf, WriteEf, WriteFf, Purge, Add}
-use Rattle.xc_action.specs.World.{Reach, New, Free, Request, On, Print, Begin, put}
-use Rattle.xc_format.specs.Pieces.{text_of}
+use Rattle.xc_meaning_world.specs.World.{Reach, New, Free, Request, On, Print, Begin, put}
+use Rattle.xc_text_format.specs.Pieces.{text_of}
 use Rattle.xc_isa.specs.declared.instr.LoadKind.{LoadKind}
 use Rattle.xc_isa.specs.declared.instr.LoadKind.TheVariants.{Ld, Ldfe, Ldff}
 use Rattle.xc_isa.specs.declared.instr.StoreKind.{StoreKind}

@@ -2,7 +2,7 @@
 use Rattle.std.specs.Prelude.{◌≡◌, ℕ, zero, suc, ◌+◌, ◌-◌, ◌^◌, nat_lt, List, [], ◌∷◌, length, Option, Some, None, map, slice_get, slice_set, replicate, if◌then◌else◌}
 use Rattle.std.specs.Option.{option_map}
 use Rattle.xc_word.specs.declared.memory.Cell.{Cell}
-use Rattle.xc_action.specs.World.{Segs, World, Touch, Reach, New, Free, Request, On, Print, Begin, Stop, Tick, Reply, Got, Dead, put, serve, world_of}
+use Rattle.xc_meaning_world.specs.World.{Segs, World, Touch, Reach, New, Free, Request, On, Print, Begin, Stop, Tick, Reply, Got, Dead, put, serve, world_of}
 use Rattle.xc_isa.specs.declared.code.Code.{Code}
 use Rattle.xc_isa.specs.declared.instr.TrapKind.{TrapKind}
 use Rattle.xc_isa.specs.declared.instr.TrapKind.TheVariants as trap

@@ -2,7 +2,7 @@
 use Rattle.std.specs.Prelude.{◌≡◌, ◌≢◌, ℕ, suc, ◌+◌, ◌-◌, ◌^◌, ◌<◌, ◌≤◌, List, [], ◌∷◌, length, replicate, slice_get, Some, ◌++◌, All, IsSome}
 use Rattle.std.specs.List.{sum_by}
 use Rattle.xc_word.specs.declared.memory.Cell.{Cell}
-use Rattle.xc_format.specs.Pieces.{pieces_of}
+use Rattle.xc_text_format.specs.Pieces.{pieces_of}
 use Rattle.xc_isa.specs.declared.code.Run.{Run}
 use Rattle.xc_isa.specs.declared.code.LoopMark.{LoopMark}
 use Rattle.xc_isa.specs.declared.instr.Instr.{Instr}

@@ -4,7 +4,7 @@ use Rattle.std.proofs.Math.ListN.{set, length-set}
 use Rattle.std.specs.List.{flat_map}
 use Rattle.std.proofs.lemmas.List.Sums.{sum_by-cons}
 use Rattle.std.proofs.lemmas.List.{append-nil}
-use Rattle.xc_span.specs.declared.Span.{Span}
+use Rattle.xc_text_place.specs.declared.Span.{Span}
 use Rattle.xc_lex.specs.declared.token.Token.{Token}
 use Rattle.xc_lex.specs.declared.macros.Macro.{Macro}
 use Rattle.xc_lex.specs.declared.macros.Frame.{Frame}

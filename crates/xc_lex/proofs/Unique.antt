@@ -1,8 +1,8 @@
 -- A text has one list of tokens or one first fault.
 use Rattle.std.proofs.Common.{◌≡◌, ◌<◌, ℕ, zero, suc, ◌+◌, ◌-◌, List, [], ◌++◌, length, if◌then◌else◌, nat_lt, is_some, Option, Some, None, refl, sym, ap, ◌∙◌, subst, arith}
 use Rattle.std.proofs.lemmas.Bool.{lt-ltb, le-ltb}
-use Rattle.xc_span.specs.declared.Pos.{Pos}
-use Rattle.xc_span.specs.Place.{IsPosition}
+use Rattle.xc_text_place.specs.declared.Pos.{Pos}
+use Rattle.xc_text_place.specs.Place.{IsPosition}
 use Rattle.xc_lex.specs.declared.token.Token.{Token}
 use Rattle.xc_lex.specs.Macros.{Macros}
 use Rattle.xc_lex.specs.Lines.{Line, line_at}

@@ -3,7 +3,7 @@ use Rattle.std.specs.Prelude.{ℕ, zero, suc, List, [], ◌∷◌, length, Bool,
 use Rattle.std.specs.List.{flat_map}
 use Rattle.std.specs.Option.{option_map_or}
 use Rattle.std.specs.Str.{bytes_eq}
-use Rattle.xc_span.specs.declared.Span.{Span}
+use Rattle.xc_text_place.specs.declared.Span.{Span}
 use Rattle.xc_lex.specs.declared.token.Token.{Token}
 use Rattle.xc_lex.specs.declared.token.TokenKind.{TokenKind}
 use Rattle.xc_lex.specs.declared.token.TokenKind.TheVariants.{Name}

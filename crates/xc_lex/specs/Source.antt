@@ -1,8 +1,8 @@
 -- The tokens of a text, and its first fault.
 use Rattle.std.specs.Prelude.{◌≡◌, ◌<◌, ℕ, ◌+◌, ◌-◌, ◌^◌, ◌⊎◌, List, [], ◌++◌, length, drop, if◌then◌else◌, nat_le, Option, Some, None, slice_get}
 use Rattle.std.specs.Option.{option_map}
-use Rattle.xc_span.specs.Place.{IsPosition}
-use Rattle.xc_span.specs.declared.Pos.{Pos}
+use Rattle.xc_text_place.specs.Place.{IsPosition}
+use Rattle.xc_text_place.specs.declared.Pos.{Pos}
 use Rattle.xc_lex.specs.declared.token.Token.{Token}
 use Rattle.xc_lex.specs.declared.token.TokenKind.TheVariants.{Pragma}
 use Rattle.xc_lex.specs.declared.front.Front.TheVariants.{Whole, Hash}

@@ -11,7 +11,7 @@ use crate::stop::Stop;
 use crate::token::Token;
 use std::alloc::Global;
 use std::marker::Model;
-use xc_span::{Pos, position};
+use xc_text_place::{Pos, position};
 
 /// The tokens of a text, in order.
 #[derive(Drop)]

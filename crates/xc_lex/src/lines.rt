@@ -12,7 +12,7 @@ use crate::macros::{LIMIT, Macros};
 use crate::stop::Stop;
 use crate::token::{Token, TokenKind};
 use std::alloc::{AllocError, AllocFailed, Global};
-use xc_span::Span;
+use xc_text_place::Span;
 
 /// What a directive does.
 #[derive(Clone, Copy, Debug, PartialEq, Eq)]

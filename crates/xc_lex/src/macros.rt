@@ -9,7 +9,7 @@ use crate::numbers::Numbers;
 use crate::stop::Stop;
 use crate::token::{Token, TokenKind};
 use std::alloc::{AllocError, AllocFailed, Global};
-use xc_span::Span;
+use xc_text_place::Span;
 
 /// How many tokens a text may have once its macros are replaced.
 pub const LIMIT: usize = 1 << 20;

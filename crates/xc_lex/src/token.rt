@@ -1,6 +1,6 @@
 //! Tokens.
 
-use xc_span::Span;
+use xc_text_place::Span;
 
 /// What a token is.
 #[derive(Clone, Copy, Debug, PartialEq, Eq)]

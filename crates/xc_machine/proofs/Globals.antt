@@ -12,8 +12,8 @@ use Rattle.std.proofs.lemmas.List.Elements.{All-head, All-tail}
 use Rattle.std.proofs.lemmas.Option.{slice_get_past}
 use Rattle.xc_word.specs.declared.memory.Cell.{Cell}
 use Rattle.xc_word.specs.Cells.{Segments}
-use Rattle.xc_action.specs.World.{put, segs_of}
-use Rattle.xc_action.proofs.Puts.{by_same, put_at, put_other}
+use Rattle.xc_meaning_world.specs.World.{put, segs_of}
+use Rattle.xc_meaning_world.proofs.Puts.{by_same, put_at, put_other}
 use Rattle.xc_isa.specs.declared.code.Run.{Run}
 use Rattle.xc_isa.specs.Texts.{cells_of, size_of, IsGlobal}
 use Rattle.xc_isa.specs.declared.code.Code.{Code}

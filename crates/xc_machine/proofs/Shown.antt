@@ -10,8 +10,8 @@ use Rattle.xc_word.specs.declared.memory.Cell.{Cell}
 use Rattle.xc_word.specs.Cells.{Segments, cell_at, put_in, fresh}
 use Rattle.xc_word.specs.Table.{on_cell, outcome, answer_of, left_by}
 use Rattle.xc_word.proofs.Maps.{assign, get-assign_same, get-assign_other}
-use Rattle.xc_action.specs.World.{Reach, New, Free, On, Got, Dead, put, left_in, reached, freed, put_back, with_out, serve}
-use Rattle.xc_action.proofs.Puts.{by_same, put_at, put_other, put_same}
+use Rattle.xc_meaning_world.specs.World.{Reach, New, Free, On, Got, Dead, put, left_in, reached, freed, put_back, with_out, serve}
+use Rattle.xc_meaning_world.proofs.Puts.{by_same, put_at, put_other, put_same}
 use Rattle.xc_machine.specs.Shows.{segs_in, world_in}
 use Rattle.xc_machine.specs.Stores.{Serves}
 

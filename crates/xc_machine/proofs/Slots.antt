@@ -5,8 +5,8 @@ use Rattle.std.specs.Prelude.{IsSome, slice_get, slice_set, slice_index, unwrap_
 use Rattle.std.specs.List.{position_from}
 use Rattle.std.specs.Option.{option_map}
 use Rattle.std.proofs.lemmas.Iterator.Adapters.{position_from-zero}
-use Rattle.xc_action.specs.World.{World, put}
-use Rattle.xc_action.proofs.Puts.{put_other}
+use Rattle.xc_meaning_world.specs.World.{World, put}
+use Rattle.xc_meaning_world.proofs.Puts.{put_other}
 use Rattle.std.proofs.lemmas.Bool.{cases_lt}
 use Rattle.std.proofs.lemmas.List.{map-set}
 use Rattle.std.proofs.lemmas.Option.{slice_get_read, slice_get_past}

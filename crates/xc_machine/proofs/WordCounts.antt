@@ -8,8 +8,8 @@ use Rattle.xc_word.specs.declared.memory.Cell.{Cell}
 use Rattle.xc_word.specs.declared.memory.Place.{Place}
 use Rattle.xc_word.specs.Cells.{Segments, fresh}
 use Rattle.xc_word.specs.Table.{left_by}
-use Rattle.xc_action.specs.World.{Segs, put}
-use Rattle.xc_action.proofs.Puts.{by_same, put_at, put_other}
+use Rattle.xc_meaning_world.specs.World.{Segs, put}
+use Rattle.xc_meaning_world.proofs.Puts.{by_same, put_at, put_other}
 use Rattle.xc_isa.specs.Machine.{words_up_to}
 use Rattle.xc_machine.specs.Shows.{segs_in}
 use Rattle.xc_machine.proofs.Shown.{segs_assign, segs_put}

@@ -1,6 +1,6 @@
 -- Steps within limits on live words and output.
 use Rattle.std.specs.Prelude.{◌≡◌, ◌⊎◌, ◌<◌, ◌≤◌, ◌+◌, ℕ, Bool, true, false, nat_lt, if◌then◌else◌, List, [], length, Option, Some, None, slice_get}
-use Rattle.xc_action.specs.World.{On, New, Print, Request, Touch, Reach, Free, Begin, Stop, Tick}
+use Rattle.xc_meaning_world.specs.World.{On, New, Print, Request, Touch, Reach, Free, Begin, Stop, Tick}
 use Rattle.xc_isa.specs.declared.code.Code.{Code}
 use Rattle.xc_isa.specs.Effects.{Effect, Goes, Asks, Faults, Quits, effect, read}
 use Rattle.xc_isa.specs.Machine.{Slot, Empty, Live, State, After, At, Trap as TrapsBy, Waits, Spent, takes, step, live_words}

@@ -1,6 +1,6 @@
 -- Registers as a function of their numbers.
 use Rattle.std.specs.Prelude.{ℕ, List, Option, Some, None, slice_index}
-use Rattle.xc_action.specs.World.{put}
+use Rattle.xc_meaning_world.specs.World.{put}
 
 abbrev pub regs_of : List ℕ → ℕ → ℕ
 regs_of regs a = slice_index regs a

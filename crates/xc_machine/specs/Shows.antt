@@ -2,7 +2,7 @@
 use Rattle.std.specs.Prelude.{ℕ, List, [], Option, Some, None, slice_get, unwrap_or}
 use Rattle.std.specs.FinMap.{get}
 use Rattle.xc_word.specs.Cells.{Segments}
-use Rattle.xc_action.specs.World.{Segs, World}
+use Rattle.xc_meaning_world.specs.World.{Segs, World}
 use Rattle.xc_isa.specs.Effects.{Regs}
 use Rattle.xc_isa.specs.Machine.{Slot, Empty, Live}
 use Rattle.xc_machine.specs.declared.stream.Stream.{Stream}

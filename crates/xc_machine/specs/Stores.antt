@@ -1,7 +1,7 @@
 -- What the store of a machine shows, and how it changes.
 use Rattle.std.specs.Prelude.{◌≡◌, ◌⊎◌, ◌<◌, ◌≤◌, ◌+◌, ◌-◌, ◌^◌, ℕ, suc, Bool, true, false, List, ◌++◌, length, Option, Some, None, replicate}
 use Rattle.xc_word.specs.Cells.{fresh}
-use Rattle.xc_action.specs.World.{World, Reply, Got, Dead, On, Free, put, serve}
+use Rattle.xc_meaning_world.specs.World.{World, Reply, Got, Dead, On, Free, put, serve}
 use Rattle.xc_word.specs.declared.memory.Applied.{Applied}
 use Rattle.xc_word.specs.declared.memory.Applied.TheVariants.{Done, Blocked, Bad}
 use Rattle.xc_machine.specs.declared.store.Store.{Store}

@@ -4,7 +4,7 @@ use Rattle.xc_word.specs.declared.memory.Cell.{Cell}
 use Rattle.xc_word.specs.declared.memory.Kind.{Kind}
 use Rattle.xc_word.specs.declared.memory.Kind.TheVariants.{Purge, Add}
 use Rattle.xc_word.specs.Table.{on_cell}
-use Rattle.xc_action.specs.World.{Segs, World, Touch, Reach, New, Free, Request, On, Print, Begin, Stop, Tick}
+use Rattle.xc_meaning_world.specs.World.{Segs, World, Touch, Reach, New, Free, Request, On, Print, Begin, Stop, Tick}
 use Rattle.xc_isa.specs.declared.instr.Instr.{Instr}
 use Rattle.xc_isa.specs.declared.instr.Instr.TheVariants as instr
 use Rattle.xc_isa.specs.Effects.{Regs, read, load_kind, store_kind, Effect, Goes, Asks, Faults, Quits}

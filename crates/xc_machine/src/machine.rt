@@ -1,7 +1,7 @@
 //! The machine, and its steps.
 
 ghost use Rattle.std.specs.Prelude.{◌≡◌, ◌<◌, ◌≤◌, ◌+◌, ◌-◌, ◌^◌, suc, Some, None, IsSome, IfSome, OnSome, ℕ, length, slice_get, slice_set, map, position, is_none};
-ghost use Rattle.xc_action.specs.World.{On, Reach, New, Begin, put};
+ghost use Rattle.xc_meaning_world.specs.World.{On, Reach, New, Begin, put};
 ghost use Rattle.xc_isa.specs.Effects.{Asks, Goes, Quits, read, load_kind, store_kind, sets, reaches, frees, prints, effect, printed_regs};
 ghost use Rattle.xc_isa.specs.Machine.{Live, Empty, free_slot, begun};
 ghost use Rattle.xc_machine.specs.Registers.{answered};

@@ -2,7 +2,7 @@
 
 ghost use Rattle.std.specs.Prelude.{◌≡◌, ◌<◌, ◌≤◌, ◌-◌, ◌^◌, ◌++◌, length, map, replicate, All, None, OnOk, IfOk};
 ghost use Rattle.std.specs.List.{sum_by};
-ghost use Rattle.xc_action.specs.World.{segs_of};
+ghost use Rattle.xc_meaning_world.specs.World.{segs_of};
 ghost use Rattle.xc_isa.specs.Texts.{cells_of, size_of, IsGlobal};
 ghost use Rattle.xc_machine.specs.Shows.{segs_in};
 

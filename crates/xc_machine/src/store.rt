@@ -2,8 +2,8 @@
 
 ghost use Rattle.std.specs.Prelude.{◌≡◌, ◌<◌, ◌≤◌, ◌+◌, ◌-◌, ◌^◌, [], ℕ, length, slice_get};
 ghost use Rattle.xc_word.specs.declared.memory.Cell.{Cell};
-ghost use Rattle.xc_action.specs.World.{On, Reach, serve};
-ghost use Rattle.xc_format.specs.Pieces.{text_of};
+ghost use Rattle.xc_meaning_world.specs.World.{On, Reach, serve};
+ghost use Rattle.xc_text_format.specs.Pieces.{text_of};
 ghost use Rattle.xc_isa.specs.Machine.{words_up_to};
 ghost use Rattle.xc_machine.specs.Shows.{segs_in, world_in};
 
@@ -133,7 +133,7 @@ impl Store {
         ensures { Prints result (text_of format.now values.now) self.old self.new }
     {
         self.piece.clear();
-        if xc_format::print(&mut self.piece, format, values).is_err() {
+        if xc_text_format::print(&mut self.piece, format, values).is_err() {
             return Printed::NoMemory;
         }
         let length = self.piece.len() as u64;

@@ -1,12 +1,12 @@
 -- What each change of the nodes at work keeps.
 use Rattle.std.proofs.Common.{◌≡◌, ℕ, ◌+◌, ◌≤◌, List, [], ◌∷◌, ◌++◌, length, reverse, Some, None, Bool, true, refl, sym, ap, ◌∙◌, subst, arith, zero-add, length-append}
 use Rattle.std.proofs.lemmas.List.{length-reverse, reverse-append}
-use Rattle.xc_depth.specs.Depths.{depth_at}
+use Rattle.xc_parse_depth.specs.Depths.{depth_at}
 use Rattle.xc_raw.specs.declared.rule.Rule.{Rule}
-use Rattle.xc_grammar.specs.declared.goals.Shape.{Shape}
-use Rattle.xc_grammar.specs.declared.goals.Shape.TheVariants as shape
-use Rattle.xc_grammar.specs.Grammar.{Form, leaf, begin, ◌▹◌, leaves, sort}
-use Rattle.xc_grammar.specs.Building.{spell, apply, retitle}
+use Rattle.xc_parse_grammar.specs.declared.goals.Shape.{Shape}
+use Rattle.xc_parse_grammar.specs.declared.goals.Shape.TheVariants as shape
+use Rattle.xc_parse_grammar.specs.Grammar.{Form, leaf, begin, ◌▹◌, leaves, sort}
+use Rattle.xc_parse_grammar.specs.Building.{spell, apply, retitle}
 use Rattle.xc_parse.specs.declared.nodes.Open.{Open}
 use Rattle.xc_parse.specs.declared.nodes.Nodes.{Nodes}
 use Rattle.xc_parse.specs.Raws.{node_at, parts_of, raws_of}

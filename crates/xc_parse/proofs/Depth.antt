@@ -4,9 +4,9 @@ use Rattle.std.proofs.lemmas.Bool.{cases_lt}
 use Rattle.std.proofs.lemmas.Bool.Decides.{nat_tests}
 use Rattle.xc_raw.specs.declared.rule.Rule.{Rule}
 use Rattle.xc_raw.specs.declared.rule.Rule.TheVariants as rule
-use Rattle.xc_grammar.specs.declared.marks.Item.{Item}
-use Rattle.xc_grammar.specs.declared.marks.Item.TheVariants as item
-use Rattle.xc_grammar.specs.Grammar.{Form, leaf, begin, ◌▹◌, leaves, sort, Begun, Whole, Fits, IsToken, Pattern, rule_of, may_be_over}
+use Rattle.xc_parse_grammar.specs.declared.marks.Item.{Item}
+use Rattle.xc_parse_grammar.specs.declared.marks.Item.TheVariants as item
+use Rattle.xc_parse_grammar.specs.Grammar.{Form, leaf, begin, ◌▹◌, leaves, sort, Begun, Whole, Fits, IsToken, Pattern, rule_of, may_be_over}
 use Rattle.xc_parse.specs.Depth.{counts, weight_of, weight, IsDeepAt, IsFirstDeep, IsShallow, depth_limit}
 use Rattle.xc_parse.specs.Nodes.{own, inside}
 

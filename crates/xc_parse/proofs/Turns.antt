@@ -4,13 +4,13 @@ use Rattle.std.specs.Prelude.{reverse, slice_get, nat_le, nat_lt}
 use Rattle.std.proofs.lemmas.List.{reverse-append, reverse-reverse, append-nil}
 use Rattle.std.proofs.lemmas.Option.{slice_get_within, same_Some}
 use Rattle.xc_raw.specs.declared.word.Word.{Word}
-use Rattle.xc_grammar.specs.declared.goals.Goal.{Goal}
-use Rattle.xc_grammar.specs.declared.goals.Shape.{Shape}
-use Rattle.xc_grammar.specs.Grammar.{Form, leaf, ◌▹◌, leaves, Stops}
-use Rattle.xc_grammar.specs.Building.{spell, apply, put}
-use Rattle.xc_grammar.specs.Plan.{Act, does, shift, wrong, look, planned}
-use Rattle.xc_grammar.proofs.Measure.{load, IsLighter, lighter}
-use Rattle.xc_grammar.proofs.State.{the_start, Holds, begins, can_do, moved, can_put, shifted, no_shift_at_end, stops_at_wrong, stops_at_more, ended_at}
+use Rattle.xc_parse_grammar.specs.declared.goals.Goal.{Goal}
+use Rattle.xc_parse_grammar.specs.declared.goals.Shape.{Shape}
+use Rattle.xc_parse_grammar.specs.Grammar.{Form, leaf, ◌▹◌, leaves, Stops}
+use Rattle.xc_parse_grammar.specs.Building.{spell, apply, put}
+use Rattle.xc_parse_grammar.specs.Plan.{Act, does, shift, wrong, look, planned}
+use Rattle.xc_parse_grammar.proofs.Measure.{load, IsLighter, lighter}
+use Rattle.xc_parse_grammar.proofs.State.{the_start, Holds, begins, can_do, moved, can_put, shifted, no_shift_at_end, stops_at_wrong, stops_at_more, ended_at}
 use Rattle.xc_parse.specs.declared.parser.Turn.{Turn}
 use Rattle.xc_parse.specs.declared.parser.Turn.TheVariants as turn
 use Rattle.xc_parse.specs.declared.nodes.Nodes.{Nodes}

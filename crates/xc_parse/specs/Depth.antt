@@ -2,7 +2,7 @@
 use Rattle.std.specs.Prelude.{◌≡◌, ◌⊎◌, ℕ, ◌+◌, ◌≤◌, ◌<◌, length, Option, Some, None, Bool, true, false}
 use Rattle.xc_raw.specs.declared.rule.Rule.{Rule}
 use Rattle.xc_raw.specs.declared.rule.Rule.TheVariants as rule
-use Rattle.xc_grammar.specs.Grammar.{Form, leaf, begin, ◌▹◌, leaves, sort}
+use Rattle.xc_parse_grammar.specs.Grammar.{Form, leaf, begin, ◌▹◌, leaves, sort}
 
 -- the nodes that count: statements (C99 6.8), and expressions with parentheses among them (6.5); the place of a `future` statement is an expression
 abbrev pub counts : Rule → Bool

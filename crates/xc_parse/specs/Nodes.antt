@@ -1,11 +1,11 @@
 -- What the nodes at work stand for.
 use Rattle.std.specs.Prelude.{◌≡◌, ℕ, ◌+◌, ◌≤◌, List, [], ◌∷◌, length, reverse, Option, Some, Bool, true, cond, ◌&&◌, nat_le, nat_lt, All}
-use Rattle.xc_depth.specs.Depths.{depth_at}
+use Rattle.xc_parse_depth.specs.Depths.{depth_at}
 use Rattle.xc_raw.specs.declared.rule.Rule.{Rule}
-use Rattle.xc_grammar.specs.declared.goals.Shape.{Shape}
-use Rattle.xc_grammar.specs.declared.goals.Shape.TheVariants as shape
-use Rattle.xc_grammar.specs.Grammar.{Form, leaf, begin, ◌▹◌, leaves, sort}
-use Rattle.xc_grammar.specs.Building.{spell}
+use Rattle.xc_parse_grammar.specs.declared.goals.Shape.{Shape}
+use Rattle.xc_parse_grammar.specs.declared.goals.Shape.TheVariants as shape
+use Rattle.xc_parse_grammar.specs.Grammar.{Form, leaf, begin, ◌▹◌, leaves, sort}
+use Rattle.xc_parse_grammar.specs.Building.{spell}
 use Rattle.xc_parse.specs.declared.nodes.Open.{Open}
 use Rattle.xc_parse.specs.declared.nodes.Nodes.{Nodes}
 use Rattle.xc_parse.specs.Depth.{weight}

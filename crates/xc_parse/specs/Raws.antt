@@ -2,7 +2,7 @@
 use Rattle.std.specs.Prelude.{ℕ, ◌+◌, List, [], ◌∷◌, ◌++◌, length, Option, Some, None}
 use Rattle.xc_raw.specs.declared.rule.Rule.{Rule}
 use Rattle.xc_raw.specs.declared.tree.Raw.{Raw, roll-Raw}
-use Rattle.xc_grammar.specs.Grammar.{Form, leaf, begin, ◌▹◌, leaves, sort}
+use Rattle.xc_parse_grammar.specs.Grammar.{Form, leaf, begin, ◌▹◌, leaves, sort}
 
 -- a node of the rule that covers the tokens from first to end; a token makes no node
 abbrev pub node_at : Option Rule → (first end : ℕ) → List Raw → List Raw

@@ -1,14 +1,14 @@
 -- The words of a text, and which fault it is.
 use Rattle.std.specs.Prelude.{◌≡◌, ℕ, List, [], ◌∷◌, ◌++◌, map, reverse, length, Option, Some, None, slice_get, slice_range}
 use Rattle.xc_lex.specs.declared.token.Token.{Token}
-use Rattle.xc_span.specs.declared.Pos.{Pos}
-use Rattle.xc_span.specs.Place.{IsPosition}
+use Rattle.xc_text_place.specs.declared.Pos.{Pos}
+use Rattle.xc_text_place.specs.Place.{IsPosition}
 use Rattle.xc_raw.specs.declared.tree.Raw.{Raw}
 use Rattle.xc_raw.specs.declared.word.Word.{Word}
 use Rattle.xc_raw.specs.Words.{word_of}
-use Rattle.xc_grammar.specs.declared.goals.Goal.{Goal}
-use Rattle.xc_grammar.specs.Grammar.{Form, Derives, Stops}
-use Rattle.xc_grammar.specs.Plan.{Act, does, shift, wrong}
+use Rattle.xc_parse_grammar.specs.declared.goals.Goal.{Goal}
+use Rattle.xc_parse_grammar.specs.Grammar.{Form, Derives, Stops}
+use Rattle.xc_parse_grammar.specs.Plan.{Act, does, shift, wrong}
 use Rattle.xc_parse.specs.declared.nodes.Nodes.{Nodes}
 use Rattle.xc_parse.specs.Depth.{IsShallow, IsFirstDeep}
 use Rattle.xc_parse.specs.Raws.{raws_of}

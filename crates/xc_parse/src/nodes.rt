@@ -1,18 +1,18 @@
 //! The nodes at work: those whose parts are still read, one inside the other.
 
 ghost use Rattle.std.specs.Prelude.{◌≡◌, ℕ, ◌+◌, ◌≤◌, ◌<◌, ◌^◌, List, [], ◌∷◌, ◌++◌, length, IsTrue, Some, true, OnOk, IfOk, vec_len};
-ghost use Rattle.xc_grammar.specs.Grammar.{Form, begin, ◌▹◌};
-ghost use Rattle.xc_grammar.specs.Building.{spell, apply, retitle};
+ghost use Rattle.xc_parse_grammar.specs.Grammar.{Form, begin, ◌▹◌};
+ghost use Rattle.xc_parse_grammar.specs.Building.{spell, apply, retitle};
 ghost use Rattle.xc_raw.specs.declared.rule.Rule.TheVariants as rule;
-ghost use Rattle.xc_depth.specs.Depths.{depth_at};
+ghost use Rattle.xc_parse_depth.specs.Depths.{depth_at};
 ghost use Rattle.xc_parse.specs.Depth.{counts};
 ghost use Rattle.xc_parse.specs.Raws.{node_at};
 ghost use Rattle.xc_parse.specs.Nodes.{IsOpen, Builds, AllWithin, own, inside, nowhere, needed};
 
 use sqlite_items::Items;
 use std::alloc::{AllocError, Global};
-use xc_depth::Stretch;
-use xc_grammar::Shape;
+use xc_parse_depth::Stretch;
+use xc_parse_grammar::Shape;
 use xc_raw::{Raw, Rule};
 
 /// The greatest height of a tree that is built. Dropping a tree takes host stack for each level, and the rules that

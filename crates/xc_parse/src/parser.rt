@@ -1,17 +1,17 @@
 //! The parser, which keeps its own stack.
 
 ghost use Rattle.std.specs.Prelude.{◌≡◌, ◌≤◌, ◌<◌, ◌+◌, ◌^◌, List, length, OnOk, IfOk, IfErr, slice_get, vec_len};
-ghost use Rattle.xc_grammar.specs.Plan.{act_of, look};
+ghost use Rattle.xc_parse_grammar.specs.Plan.{act_of, look};
 ghost use Rattle.xc_parse.specs.declared.parser.ParseFault.TheVariants.{NoMemory};
 ghost use Rattle.xc_parse.specs.Texts.{words_of, Pushed, Parsed, FaultFits, StandsAt, IsDone};
 
 use crate::nodes::Nodes;
 use std::alloc::{AllocError, AllocFailed, Global};
-use xc_depth::first_deeper;
-use xc_grammar::{Class, Goal, Move, Shape, Spot, plan, start};
 use xc_lex::Tokens;
+use xc_parse_depth::first_deeper;
+use xc_parse_grammar::{Class, Goal, Move, Shape, Spot, plan, start};
 use xc_raw::{Level, Raw, Rule, Word, word_of};
-use xc_span::{Pos, position};
+use xc_text_place::{Pos, position};
 
 /// Why there is no tree.
 #[derive(Debug, Drop)]

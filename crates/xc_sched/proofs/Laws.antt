@@ -6,16 +6,16 @@ use Rattle.std.specs.Str.{bytes_eq}
 use Rattle.std.proofs.lemmas.Option.{cond_some}
 use Rattle.std.proofs.lemmas.List.{map_push, append-nil, length-map}
 use Rattle.std.proofs.lemmas.Slice.Eq.{bytes_eq-Decides}
-use Rattle.xc_line.specs.declared.lines.ReadFault.{ReadFault}
-use Rattle.xc_line.specs.declared.lines.ReadFault.TheVariants as reading
-use Rattle.xc_line.specs.Lines.{is_feed, words_of, pieces, read_pieces, at_option, Reads, HasFewLines}
-use Rattle.xc_line.specs.Numbers.{number_of}
-use Rattle.xc_line.specs.Grammar.{HasNoFeed, IsFormat, InFormat, IsFirstBad}
-use Rattle.xc_line.specs.Grammar.{runs as runs_lines}
-use Rattle.xc_line.specs.Grammar.{Spells as LinesSpell}
-use Rattle.xc_line.proofs.Numerals.{number_spells, number_decimal}
-use Rattle.xc_line.proofs.Laws.{is_found, is_only, is_first_bad, first_bad_same, count-with_feeds}
-use Rattle.xc_line.proofs.Joins.{IsWord, words-join, join-words, no_feed-join, decimal_word}
+use Rattle.xc_text_lines.specs.declared.lines.ReadFault.{ReadFault}
+use Rattle.xc_text_lines.specs.declared.lines.ReadFault.TheVariants as reading
+use Rattle.xc_text_lines.specs.Lines.{is_feed, words_of, pieces, read_pieces, at_option, Reads, HasFewLines}
+use Rattle.xc_text_lines.specs.Numbers.{number_of}
+use Rattle.xc_text_lines.specs.Grammar.{HasNoFeed, IsFormat, InFormat, IsFirstBad}
+use Rattle.xc_text_lines.specs.Grammar.{runs as runs_lines}
+use Rattle.xc_text_lines.specs.Grammar.{Spells as LinesSpell}
+use Rattle.xc_text_lines.proofs.Numerals.{number_spells, number_decimal}
+use Rattle.xc_text_lines.proofs.Laws.{is_found, is_only, is_first_bad, first_bad_same, count-with_feeds}
+use Rattle.xc_text_lines.proofs.Joins.{IsWord, words-join, join-words, no_feed-join, decimal_word}
 use Rattle.xc_sched.specs.declared.run.Run.{Run}
 use Rattle.xc_sched.specs.declared.text.SchedFault.TheVariants.{Line, NoMemory}
 use Rattle.xc_sched.specs.Faults.{fault_of}

@@ -1,8 +1,8 @@
 -- Reading a schedule, line by line.
 use Rattle.std.specs.Prelude.{◌≡◌, ℕ, zero, suc, ◌+◌, ◌^◌, Bool, true, false, List, [], ◌∷◌, ◌++◌, map, Option, Some, None, if◌then◌else◌}
 use Rattle.std.specs.Str.{bytes_eq}
-use Rattle.xc_line.specs.Lines.{words_of}
-use Rattle.xc_line.specs.Numbers.{number_of}
+use Rattle.xc_text_lines.specs.Lines.{words_of}
+use Rattle.xc_text_lines.specs.Numbers.{number_of}
 use Rattle.xc_sched.specs.declared.run.Run.{Run}
 use Rattle.xc_sched.specs.Runs.{header, last_of, is_other, line_of, Fits}
 

@@ -2,7 +2,7 @@
 use Rattle.std.specs.Prelude.{◌≡◌, ℕ, ◌-◌, ◌^◌, ◌<◌, ◌≤◌, ◌==◌, Bool, true, ◌&&◌, not, List, [], ◌∷◌, length, drop, map, replicate, Option, Some, None, nat_lt, nat_le, codes}
 use Rattle.std.specs.Fmt.{decimal}
 use Rattle.std.specs.List.{flat_map, join_with_byte}
-use Rattle.xc_line.specs.Grammar.{with_feeds}
+use Rattle.xc_text_lines.specs.Grammar.{with_feeds}
 use Rattle.xc_sched.specs.declared.run.Run.{Run}
 
 abbrev pub header : List ℕ

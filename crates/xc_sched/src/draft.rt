@@ -1,13 +1,13 @@
 //! A schedule that is being read.
 
 ghost use Rattle.std.specs.Prelude.{◌≡◌, ◌∷◌, []};
-ghost use Rattle.xc_line.specs.Lines.{words_of};
+ghost use Rattle.xc_text_lines.specs.Lines.{words_of};
 ghost use Rattle.xc_sched.specs.Drafts.{run_of as run_of_words, next, whole};
 
 use crate::run::{Run, STEPS, STREAMS, is_other};
 use std::alloc::AllocError;
 use std::marker::Model;
-use xc_line::{LineReader, Refused, cut_word, number_below};
+use xc_text_lines::{LineReader, Refused, cut_word, number_below};
 
 /// Whether the first line was read, and the runs so far.
 #[derive(Drop)]

@@ -1,8 +1,8 @@
 //! The text of a schedule.
 
 ghost use Rattle.std.specs.Prelude.{◌≡◌, ◌⊎◌, ◌++◌, ◌∷◌, [], ◌<◌, ◌-◌, ◌^◌, length, OnOk, IfOk, List, ℕ};
-ghost use Rattle.xc_line.specs.Lines.{HasFewLines};
-ghost use Rattle.xc_line.specs.Grammar.{IsFirstBad};
+ghost use Rattle.xc_text_lines.specs.Lines.{HasFewLines};
+ghost use Rattle.xc_text_lines.specs.Grammar.{IsFirstBad};
 ghost use Rattle.xc_sched.specs.Faults.{fault_of};
 ghost use Rattle.xc_sched.specs.Runs.{Fits, steps_of, line_of, text_of, Spells, IsSchedule};
 
@@ -10,7 +10,7 @@ use crate::draft::Draft;
 use crate::recorded::Recorded;
 use crate::run::{Run, rest};
 use std::alloc::{AllocError, Global};
-use xc_line::{ReadFault, end_line, push_number, push_space, read_lines};
+use xc_text_lines::{ReadFault, end_line, push_number, push_space, read_lines};
 
 /// Why a schedule was not read.
 #[derive(Clone, Copy, Debug, PartialEq, Eq)]

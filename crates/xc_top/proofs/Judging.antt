@@ -1,18 +1,18 @@
 -- What the texts decide, put together.
 use Rattle.std.proofs.Common.{◌≡◌, ◌≤◌, ℕ, List, [], Option, Some, None, Result, Ok, Err, refl, sym, ap, ◌∙◌, subst}
 use Rattle.std.specs.Prelude.{IfOk, MatchResult}
-use Rattle.xc_line.specs.Grammar.{IsFirstBad}
+use Rattle.xc_text_lines.specs.Grammar.{IsFirstBad}
 use Rattle.xc_sched.specs.Runs.{Spells as SpellsSteps, IsSchedule}
 use Rattle.xc_isa.specs.declared.code.Code.{Code}
-use Rattle.xc_words.specs.declared.command.Choice.{Choice}
-use Rattle.xc_words.specs.declared.command.Choice.TheVariants as choice
-use Rattle.xc_words.specs.declared.command.Options.{Options}
-use Rattle.xc_words.specs.declared.command.Command.{Command}
-use Rattle.xc_words.specs.Commands.{options_in}
-use Rattle.xc_exec.specs.declared.source.Source.{Source}
-use Rattle.xc_exec.specs.declared.source.Source.TheVariants as source
-use Rattle.xc_exec.specs.declared.outcome.Ending.{Ending}
-use Rattle.xc_exec.specs.Plays.{Plays, IsRecord}
+use Rattle.xc_top_words.specs.declared.command.Choice.{Choice}
+use Rattle.xc_top_words.specs.declared.command.Choice.TheVariants as choice
+use Rattle.xc_top_words.specs.declared.command.Options.{Options}
+use Rattle.xc_top_words.specs.declared.command.Command.{Command}
+use Rattle.xc_top_words.specs.Commands.{options_in}
+use Rattle.xc_machine_play.specs.declared.source.Source.{Source}
+use Rattle.xc_machine_play.specs.declared.source.Source.TheVariants as source
+use Rattle.xc_machine_play.specs.declared.outcome.Ending.{Ending}
+use Rattle.xc_machine_play.specs.Plays.{Plays, IsRecord}
 use Rattle.xc_top.specs.declared.status.Bad.{Bad}
 use Rattle.xc_top.specs.declared.status.Bad.TheVariants.{Line}
 use Rattle.xc_top.specs.declared.status.Status.{Status}

@@ -2,22 +2,22 @@
 use Rattle.std.proofs.Common.{◌≡◌, ◌≤◌, ℕ, List, Bool, false, Option, Some, None, length, inl, inr, refl, sym, ◌∙◌, subst}
 use Rattle.std.specs.Prelude.{nat_lt}
 use Rattle.xc_sched.specs.Choices.{PicksInTurn, PicksBySeed, PicksNext}
-use Rattle.xc_thread.specs.Terms.{Program, program_of}
+use Rattle.xc_meaning.specs.Terms.{Program, program_of}
 use Rattle.xc_isa.specs.declared.code.Code.{Code}
 use Rattle.xc_isa.specs.Machine.{State, start, HasQuit}
-use Rattle.xc_emit.specs.Faithful.{Faithful}
+use Rattle.xc_gen.specs.Faithful.{Faithful}
 use Rattle.xc_machine.specs.declared.run.End.{End}
 use Rattle.xc_machine.specs.declared.run.End.TheVariants as end
 use Rattle.xc_machine.specs.Runs.{Ends}
 use Rattle.xc_machine.proofs.RunLaws.{follows_run}
-use Rattle.xc_words.specs.declared.command.Options.{Options}
-use Rattle.xc_words.specs.declared.command.Command.{Command}
-use Rattle.xc_words.specs.declared.command.Command.TheVariants.{Run, Exec, Compile}
-use Rattle.xc_exec.specs.declared.source.Source.{Source}
-use Rattle.xc_exec.specs.declared.source.Source.TheVariants.{Turns, Seed, Schedule}
-use Rattle.xc_exec.specs.declared.outcome.Ending.{Ending}
-use Rattle.xc_exec.specs.declared.outcome.Ending.TheVariants as ending
-use Rattle.xc_exec.specs.Plays.{ending_of, limits_in, Played, PlaysBy, Plays}
+use Rattle.xc_top_words.specs.declared.command.Options.{Options}
+use Rattle.xc_top_words.specs.declared.command.Command.{Command}
+use Rattle.xc_top_words.specs.declared.command.Command.TheVariants.{Run, Exec, Compile}
+use Rattle.xc_machine_play.specs.declared.source.Source.{Source}
+use Rattle.xc_machine_play.specs.declared.source.Source.TheVariants.{Turns, Seed, Schedule}
+use Rattle.xc_machine_play.specs.declared.outcome.Ending.{Ending}
+use Rattle.xc_machine_play.specs.declared.outcome.Ending.TheVariants as ending
+use Rattle.xc_machine_play.specs.Plays.{ending_of, limits_in, Played, PlaysBy, Plays}
 use Rattle.xc_top.specs.declared.status.Numbers.{Numbers}
 use Rattle.xc_top.specs.declared.status.Status.{Status}
 use Rattle.xc_top.specs.declared.status.Status.TheVariants.{Ok, Compiled, ReadFault, WriteFault, Usage, Long, Refused, Trap, Unfinished, Stuck, BadSchedule, WordsFull, OutFull, NoMemory}

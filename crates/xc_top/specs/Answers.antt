@@ -1,10 +1,10 @@
 -- Why the top call answers as it does, and what it writes.
 use Rattle.std.specs.Prelude.{◌≡◌, ◌⊎◌, ◌<◌, ◌≤◌, ◌+◌, ◌^◌, ℕ, List, [], Option, Some, None, length}
 use Rattle.xc_edge.specs.Counts.{Rises}
-use Rattle.xc_words.specs.declared.command.Choice.{Choice}
-use Rattle.xc_words.specs.declared.command.Command.{Command}
-use Rattle.xc_words.specs.declared.command.Command.TheVariants.{Run, Exec, Compile}
-use Rattle.xc_words.specs.Commands.{file_in, schedule_of}
+use Rattle.xc_top_words.specs.declared.command.Choice.{Choice}
+use Rattle.xc_top_words.specs.declared.command.Command.{Command}
+use Rattle.xc_top_words.specs.declared.command.Command.TheVariants.{Run, Exec, Compile}
+use Rattle.xc_top_words.specs.Commands.{file_in, schedule_of}
 use Rattle.xc_top.specs.declared.status.Status.{Status}
 use Rattle.xc_top.specs.declared.status.Status.TheVariants.{Ok, Compiled, ReadFault, WriteFault, Usage, Long, Refused, Trap, Unfinished, Stuck, BadSchedule, WordsFull, OutFull, NoMemory}
 use Rattle.xc_top.specs.Lines.{line_of}

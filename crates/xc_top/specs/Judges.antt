@@ -1,26 +1,26 @@
 -- What a command answers to the texts of its files.
 use Rattle.std.specs.Prelude.{◌≡◌, ◌≤◌, ◌^◌, ℕ, List, [], ◌++◌, length, Option, Some, None}
-use Rattle.xc_action.specs.World.{World, Action}
-use Rattle.xc_span.specs.declared.Pos.{Pos}
+use Rattle.xc_meaning_world.specs.World.{World, Action}
+use Rattle.xc_text_place.specs.declared.Pos.{Pos}
 use Rattle.xc_tree.specs.declared.tree.Tree.{Tree}
-use Rattle.xc_thread.specs.Terms.{Program, program_of}
-use Rattle.xc_thread.specs.Source.{SourceRun, HasEnded}
+use Rattle.xc_meaning.specs.Terms.{Program, program_of}
+use Rattle.xc_meaning.specs.Source.{SourceRun, HasEnded}
 use Rattle.xc_isa.specs.declared.code.Code.{Code}
 use Rattle.xc_driver.specs.Compiles.{IsTreeOf, IsCodeOf, IsRefusal}
-use Rattle.xc_line.specs.Grammar.{IsFirstBad}
-use Rattle.xc_asm.specs.Texts.{contents_of, Spells as SpellsCode, IsAssembly}
+use Rattle.xc_text_lines.specs.Grammar.{IsFirstBad}
+use Rattle.xc_isa_text.specs.Texts.{contents_of, Spells as SpellsCode, IsAssembly}
 use Rattle.xc_sched.specs.Runs.{Spells as SpellsSteps, IsSchedule}
-use Rattle.xc_words.specs.declared.command.Choice.{Choice}
-use Rattle.xc_words.specs.declared.command.Choice.TheVariants as choice
-use Rattle.xc_words.specs.declared.command.Options.{Options}
-use Rattle.xc_words.specs.declared.command.Command.{Command}
-use Rattle.xc_words.specs.declared.command.Command.TheVariants.{Run, Exec, Compile}
-use Rattle.xc_words.specs.Commands.{file_in, options_in}
-use Rattle.xc_exec.specs.declared.source.Source.{Source}
-use Rattle.xc_exec.specs.declared.source.Source.TheVariants as source
-use Rattle.xc_exec.specs.declared.outcome.Ending.{Ending}
-use Rattle.xc_exec.specs.declared.outcome.Ending.TheVariants as ending
-use Rattle.xc_exec.specs.Plays.{Plays, IsRecord}
+use Rattle.xc_top_words.specs.declared.command.Choice.{Choice}
+use Rattle.xc_top_words.specs.declared.command.Choice.TheVariants as choice
+use Rattle.xc_top_words.specs.declared.command.Options.{Options}
+use Rattle.xc_top_words.specs.declared.command.Command.{Command}
+use Rattle.xc_top_words.specs.declared.command.Command.TheVariants.{Run, Exec, Compile}
+use Rattle.xc_top_words.specs.Commands.{file_in, options_in}
+use Rattle.xc_machine_play.specs.declared.source.Source.{Source}
+use Rattle.xc_machine_play.specs.declared.source.Source.TheVariants as source
+use Rattle.xc_machine_play.specs.declared.outcome.Ending.{Ending}
+use Rattle.xc_machine_play.specs.declared.outcome.Ending.TheVariants as ending
+use Rattle.xc_machine_play.specs.Plays.{Plays, IsRecord}
 use Rattle.xc_top.specs.declared.status.FileKind.{FileKind}
 use Rattle.xc_top.specs.declared.status.FileKind.TheVariants.{Asm, Source as InSource}
 use Rattle.xc_top.specs.declared.status.Numbers.{Numbers}

@@ -2,14 +2,14 @@
 
 ghost use Rattle.std.specs.Prelude.{◌≡◌, ◌≤◌, ◌<◌, ◌^◌, ℕ, List, Option, IsSome, OnOk, IfOk, MatchResult};
 ghost use Rattle.std.specs.Option.{option_map};
-ghost use Rattle.xc_words.specs.Commands.{file_in, schedule_of};
+ghost use Rattle.xc_top_words.specs.Commands.{file_in, schedule_of};
 ghost use Rattle.xc_top.specs.Seen.{ShelfSeen};
 ghost use Rattle.xc_top.specs.Answers.{Has, HasSchedule, IsUnread, IsUnreadAt, limit_in};
 
 use crate::status::Status;
 use std::alloc::{AllocError, Global};
 use xc_edge::{Fetch, Shelf};
-use xc_words::{Command, Name};
+use xc_top_words::{Command, Name};
 
 /// No source is longer.
 const SOURCE_LIMIT: usize = 1 << 20;

@@ -2,25 +2,25 @@
 
 ghost use Rattle.std.specs.Prelude.{◌≡◌, ◌≤◌, ◌^◌, ℕ, List, [], Some, None, length, IfOk, MatchResult};
 ghost use Rattle.std.specs.Option.{option_map};
-ghost use Rattle.xc_words.specs.Commands.{options_in};
+ghost use Rattle.xc_top_words.specs.Commands.{options_in};
 ghost use Rattle.xc_top.specs.Judges.{IsSourceCode, IsRefusedSource, IsRefusedCode, StandsFor, IsRefused, Chooses, IsBadSchedule, IsGiven, IsGivenTo, status_of, with_choices, Executes, IsWritten, Judges};
 ghost use Rattle.xc_top.specs.Lines.{line_of};
 ghost use Rattle.xc_top.specs.Answers.{limit_in};
-ghost use Rattle.xc_asm.specs.Texts.{contents_of, Spells};
-ghost use Rattle.xc_line.specs.Grammar.{IsFirstBad};
+ghost use Rattle.xc_isa_text.specs.Texts.{contents_of, Spells};
+ghost use Rattle.xc_text_lines.specs.Grammar.{IsFirstBad};
 ghost use Rattle.xc_sched.specs.Runs.{Spells as SpellsSteps, IsSchedule};
-ghost use Rattle.xc_span.specs.declared.Pos.{Pos};
+ghost use Rattle.xc_text_place.specs.declared.Pos.{Pos};
 
 use crate::lines::line;
 use crate::status::{Bad, FileKind, Numbers, Status};
 use std::alloc::{AllocError, Global};
-use xc_asm::AsmFault;
 use xc_driver::{CompileFault, Compiled, compile};
-use xc_exec::{Ending, Outcome, Source, play};
 use xc_isa::Code;
+use xc_isa_text::AsmFault;
+use xc_machine_play::{Ending, Outcome, Source, play};
 use xc_sched::{SchedFault, read_schedule};
-use xc_span::Pos;
-use xc_words::{Choice, Command, Name, Options};
+use xc_text_place::Pos;
+use xc_top_words::{Choice, Command, Name, Options};
 
 /// What there is to say and to write.
 #[derive(Drop)]
@@ -54,7 +54,7 @@ fn assembled(alloc: Global, text: &[u8]) -> Result<Code, CodeFault>
     ensures { MatchResult result (λ code. Spells text.now (contents_of code))
         (λ e. (kind : FileKind) → (at : Pos) → e ≡ CodeFault.Refused kind at → IsRefusedCode text.now kind at) }
 {
-    match xc_asm::read(alloc, text) {
+    match xc_isa_text::read(alloc, text) {
         Ok(code) => Ok(code),
         Err(AsmFault::Line(line)) => Err(CodeFault::Refused {
             kind: FileKind::Asm,
@@ -217,7 +217,7 @@ fn executed(
 fn written(alloc: Global, code: &Code) -> Result<Plan, AllocError>
     ensures { IfOk result (λ p. IsWritten code.now p.status p.out.items p.err.items) }
 {
-    let out = xc_asm::print(alloc, code)?;
+    let out = xc_isa_text::print(alloc, code)?;
     Ok(Plan {
         status: Status::Compiled,
         out,

@@ -9,7 +9,7 @@ mod top;
 
 pub use status::{Bad, FileKind, Numbers, Status};
 pub use top::xmtc;
-pub use xc_words::Name;
+pub use xc_top_words::Name;
 
 #[cfg(test)]
 mod tests;

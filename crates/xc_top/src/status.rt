@@ -5,8 +5,8 @@ ghost use Rattle.xc_top.specs.Codes.{code_of};
 
 use xc_driver::RefusalKind;
 use xc_isa::TrapKind;
-use xc_span::Pos;
-use xc_words::Name;
+use xc_text_place::Pos;
+use xc_top_words::Name;
 
 /// Why a file is refused.
 #[derive(Clone, Copy, Debug, PartialEq, Eq)]

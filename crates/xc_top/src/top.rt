@@ -1,7 +1,7 @@
 //! The top call.
 
 ghost use Rattle.std.specs.Prelude.{◌≡◌, Some, None, map, string_bytes, IfOk};
-ghost use Rattle.xc_words.specs.Words.{command_of};
+ghost use Rattle.xc_top_words.specs.Words.{command_of};
 ghost use Rattle.xc_top.specs.Lines.{line_of};
 ghost use Rattle.xc_top.specs.Seen.{ShelfSeen, SinkSeen, Puts};
 ghost use Rattle.xc_top.specs.Answers.{Cause, Finishes, Writes, Tells};
@@ -12,7 +12,7 @@ use crate::lines::NO_MEMORY;
 use crate::status::Status;
 use std::alloc::{AllocError, Global};
 use xc_edge::{Shelf, Sink, put_all};
-use xc_words::{WordsFault, read_command};
+use xc_top_words::{WordsFault, read_command};
 
 /// Does what the words say, over a shelf of files and two sinks. Words are those after the program's name. A source is read up
 /// to 1 MiB, assembly and a schedule up to 64 MiB; all memory is taken before the first put.

@@ -3,7 +3,7 @@
 use crate::operator::{BinOp, UnOp};
 use crate::ty::Ty;
 use sqlite_items::{Boxed, Items};
-use xc_span::Span;
+use xc_text_place::Span;
 use xc_word::Kind;
 
 /// An expression with the type of its value. A place is a value too: the pointer to it.

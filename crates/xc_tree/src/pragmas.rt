@@ -4,7 +4,7 @@ ghost use Rattle.std.specs.Prelude.{⊤, [], ◌∷◌, codes};
 
 use bitflags::{Flag, Flags, bitflag_items};
 use sqlite_items::Items;
-use xc_span::Span;
+use xc_text_place::Span;
 
 /// Which pragmas stand before a loop: `assert parallel`, `loop serial`, `assert nodep`, `assert noalias`, `use` and a
 /// schedule.

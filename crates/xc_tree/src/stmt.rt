@@ -3,7 +3,7 @@
 use crate::expr::Expr;
 use crate::pragmas::Pragmas;
 use sqlite_items::{Boxed, Items};
-use xc_span::Span;
+use xc_text_place::Span;
 
 /// The number of a loop in its program: in a program that was checked, its place in text order from 0.
 pub type LoopId = u32;

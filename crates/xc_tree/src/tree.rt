@@ -9,7 +9,7 @@ ghost use Rattle.xc_tree.specs.Valid.{tree_ok, format_ok};
 use crate::stmt::Stmt;
 use crate::ty::Ty;
 use sqlite_items::{Boxed, Items};
-use xc_span::Span;
+use xc_text_place::Span;
 
 /// A global object: its first cells, each with its word and whether it is full. Cells past these are full and 0.
 #[derive(Drop)]

@@ -5,12 +5,12 @@ use Rattle.std.proofs.lemmas.Grind.{common_steps}
 use Rattle.xc_lex.specs.declared.token.Token.{Token}
 use Rattle.xc_raw.specs.declared.tree.Raw.{Raw, out-Raw}
 use Rattle.xc_tree.specs.declared.tree.Tree.{Tree}
-use Rattle.xc_found.specs.declared.fault.Fault.{Fault}
-use Rattle.xc_literal.specs.Texts.{formats_of}
-use Rattle.xc_judge.specs.declared.text.Text.{Text}
-use Rattle.xc_outer.specs.declared.text.Whole.{Whole}
-use Rattle.xc_outer.specs.Functions.{bodies_of}
-use Rattle.xc_outer.specs.Texts.{main_in}
+use Rattle.xc_type_rule.specs.declared.fault.Fault.{Fault}
+use Rattle.xc_type_literals.specs.Texts.{formats_of}
+use Rattle.xc_type_expressions.specs.declared.text.Text.{Text}
+use Rattle.xc_type_unit.specs.declared.text.Whole.{Whole}
+use Rattle.xc_type_unit.specs.Functions.{bodies_of}
+use Rattle.xc_type_unit.specs.Texts.{main_in}
 use Rattle.xc_type.specs.declared.fault.CheckFault.{CheckFault}
 use Rattle.xc_type.specs.declared.fault.CheckFault.TheVariants.{NoMemory, Name, Typing, Count}
 use Rattle.xc_type.specs.Checked.{IsText, IsPlaced, IsFaultIn, IsFault, IsWhole, IsWholeOf, IsMade, IsTree, first_fault, scope_of}

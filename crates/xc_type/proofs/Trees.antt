@@ -12,20 +12,20 @@ use Rattle.xc_tree.specs.declared.ty.Ty.{Ty}
 use Rattle.xc_tree.specs.declared.tree.Func.{Func}
 use Rattle.xc_tree.specs.Valid.{tree_ok}
 use Rattle.xc_tree.proofs.Lists.{and_left, and_right}
-use Rattle.xc_found.specs.declared.fault.Fault.{Fault}
-use Rattle.xc_found.specs.declared.found.Member.{Member}
-use Rattle.xc_found.specs.Least.{is_before, least_from}
-use Rattle.xc_literal.specs.Texts.{formats_of}
-use Rattle.xc_stmt.specs.Making.{one, followed, all_made}
-use Rattle.xc_outer.specs.declared.scope.FileScope.{FileScope}
-use Rattle.xc_outer.specs.declared.text.Whole.{Whole}
-use Rattle.xc_outer.specs.Functions.{bodies_of}
-use Rattle.xc_outer.specs.Texts.{whole, main_in}
-use Rattle.xc_extends.specs.Lists.{Each}
-use Rattle.xc_extends.specs.Table.{with_known, tys_of, struct_tys}
-use Rattle.xc_shaped.proofs.Texts as texts
-use Rattle.xc_whole.specs.Files.{AreFew, IsTyped}
-use Rattle.xc_whole.proofs.Whole.{whole_typed}
+use Rattle.xc_type_rule.specs.declared.fault.Fault.{Fault}
+use Rattle.xc_type_rule.specs.declared.found.Member.{Member}
+use Rattle.xc_type_rule.specs.Least.{is_before, least_from}
+use Rattle.xc_type_literals.specs.Texts.{formats_of}
+use Rattle.xc_type_statements.specs.Making.{one, followed, all_made}
+use Rattle.xc_type_unit.specs.declared.scope.FileScope.{FileScope}
+use Rattle.xc_type_unit.specs.declared.text.Whole.{Whole}
+use Rattle.xc_type_unit.specs.Functions.{bodies_of}
+use Rattle.xc_type_unit.specs.Texts.{whole, main_in}
+use Rattle.xc_welltyped_claims.specs.Lists.{Each}
+use Rattle.xc_welltyped_claims.specs.Table.{with_known, tys_of, struct_tys}
+use Rattle.xc_welltyped_claims.proofs.Texts as texts
+use Rattle.xc_welltyped_unit.specs.Files.{AreFew, IsTyped}
+use Rattle.xc_welltyped_unit.proofs.Whole.{whole_typed}
 use Rattle.xc_type.specs.Checked.{known_types, struct_types, is_few, are_few, scope_of, IsWholeOf}
 
 -- types of members -------------------------------------------------------------

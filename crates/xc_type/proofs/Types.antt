@@ -4,8 +4,8 @@ use Rattle.std.specs.Prelude.{option_and_then}
 use Rattle.std.proofs.lemmas.List.{drop_more}
 use Rattle.std.proofs.lemmas.Option.{slice_get-get_or}
 use Rattle.std.proofs.lemmas.Grind.{common_steps}
-use Rattle.xc_found.specs.declared.found.Member.{Member}
-use Rattle.xc_stmt.proofs.Parts.{followed_first, followed_last, followed_assoc, made_none, made_more}
+use Rattle.xc_type_rule.specs.declared.found.Member.{Member}
+use Rattle.xc_type_statements.proofs.Parts.{followed_first, followed_last, followed_assoc, made_none, made_more}
 use Rattle.xc_type.specs.Checked.{types_of, type_at}
 
 -- the next member's type, and those behind it

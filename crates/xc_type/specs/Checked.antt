@@ -1,25 +1,25 @@
 -- What a text is checked to be: the least of its faults, the first place at which a count passes its limit, or its typed tree.
 use Rattle.std.specs.Prelude.{◌≡◌, ℕ, ◌^◌, Bool, ◌&&◌, nat_lt, List, length, map, Option, Some, None, option_and_then, slice_get}
 use Rattle.std.specs.List.{list_all}
-use Rattle.xc_span.specs.Place.{IsPosition}
+use Rattle.xc_text_place.specs.Place.{IsPosition}
 use Rattle.xc_lex.specs.declared.token.Token.{Token}
 use Rattle.xc_raw.specs.declared.tree.Raw.{Raw, out-Raw}
 use Rattle.xc_tree.specs.declared.ty.Ty.{Ty}
 use Rattle.xc_tree.specs.declared.tree.Func.{Func}
 use Rattle.xc_tree.specs.declared.tree.Tree.{Tree}
-use Rattle.xc_found.specs.declared.fault.Fault.{Fault}
-use Rattle.xc_found.specs.declared.fault.Breach.TheVariants as breach
-use Rattle.xc_found.specs.declared.found.Member.{Member}
-use Rattle.xc_found.specs.Least.{least_from}
-use Rattle.xc_names.specs.Numbered.{numbered}
-use Rattle.xc_literal.specs.Constants.{constants_of}
-use Rattle.xc_literal.specs.Texts.{numbers_of, formats_of, all_taken}
-use Rattle.xc_judge.specs.declared.text.Text.{Text}
-use Rattle.xc_stmt.specs.Making.{all_made}
-use Rattle.xc_outer.specs.declared.scope.FileScope.{FileScope}
-use Rattle.xc_outer.specs.declared.text.Whole.{Whole}
-use Rattle.xc_outer.specs.Functions.{bodies_of}
-use Rattle.xc_outer.specs.Texts.{whole, main_in}
+use Rattle.xc_type_rule.specs.declared.fault.Fault.{Fault}
+use Rattle.xc_type_rule.specs.declared.fault.Breach.TheVariants as breach
+use Rattle.xc_type_rule.specs.declared.found.Member.{Member}
+use Rattle.xc_type_rule.specs.Least.{least_from}
+use Rattle.xc_type_names.specs.Numbered.{numbered}
+use Rattle.xc_type_literals.specs.Constants.{constants_of}
+use Rattle.xc_type_literals.specs.Texts.{numbers_of, formats_of, all_taken}
+use Rattle.xc_type_expressions.specs.declared.text.Text.{Text}
+use Rattle.xc_type_statements.specs.Making.{all_made}
+use Rattle.xc_type_unit.specs.declared.scope.FileScope.{FileScope}
+use Rattle.xc_type_unit.specs.declared.text.Whole.{Whole}
+use Rattle.xc_type_unit.specs.Functions.{bodies_of}
+use Rattle.xc_type_unit.specs.Texts.{whole, main_in}
 use Rattle.xc_type.specs.declared.fault.CheckFault.{CheckFault}
 use Rattle.xc_type.specs.declared.fault.CheckFault.TheVariants.{NoMemory, Name, Typing, Count}
 

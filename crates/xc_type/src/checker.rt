@@ -9,14 +9,14 @@ ghost use Rattle.xc_type.specs.Checked as spec;
 use crate::fault::{CheckFault, placed};
 use crate::made::made;
 use std::alloc::Global;
-use xc_judge::Text;
 use xc_lex::{Token, Tokens};
-use xc_literal::{Texts, texts_of};
-use xc_names::Names;
-use xc_outer::{Whole, outer};
 use xc_raw::Raw;
-use xc_span::position;
+use xc_text_place::position;
 use xc_tree::Tree;
+use xc_type_expressions::Text;
+use xc_type_literals::{Texts, texts_of};
+use xc_type_names::Names;
+use xc_type_unit::{Whole, outer};
 
 /// What the declarations of a text make, or its first fault.
 #[tactic(auto, using(crate::proofs::Faults::fault_rules))]

@@ -5,8 +5,8 @@ ghost use Rattle.xc_type.specs.Checked.{IsPlaced};
 ghost use Rattle.xc_type.specs.declared.fault.CheckFault.TheVariants.{NoMemory};
 
 use std::alloc::{AllocError, AllocFailed};
-use xc_found::{Breach, Fault};
-use xc_span::{Pos, position};
+use xc_text_place::{Pos, position};
+use xc_type_rule::{Breach, Fault};
 
 /// Why a text has no typed tree: want of memory, or what it breaks first.
 #[derive(Clone, Copy, Debug, PartialEq, Eq)]

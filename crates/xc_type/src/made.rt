@@ -2,18 +2,18 @@
 
 ghost use Rattle.std.specs.Prelude.{◌≡◌, length, IfOk, IfErr};
 ghost use Rattle.std.specs.List.{list_all};
-ghost use Rattle.xc_whole.specs.Files.{IsTyped};
+ghost use Rattle.xc_welltyped_unit.specs.Files.{IsTyped};
 ghost use Rattle.xc_type.specs.Checked as spec;
 ghost use Rattle.xc_type.specs.declared.fault.CheckFault.TheVariants.{NoMemory};
 
 use crate::fault::CheckFault;
 use sqlite_items::Items;
 use std::alloc::{AllocError, Global};
-use xc_outer::{FileScope, Whole, copy_known};
-use xc_stmt::{followed, one};
-use xc_structs::Members;
 use xc_tree::tree::Func;
 use xc_tree::{Tree, Ty};
+use xc_type_statements::{followed, one};
+use xc_type_structs::Members;
+use xc_type_unit::{FileScope, Whole, copy_known};
 
 fn type_at(alloc: Global, members: &Members, at: usize) -> Result<Option<Ty>, AllocError>
     ensures { IfOk result (λ r. r ≡ spec.type_at members.now at) }

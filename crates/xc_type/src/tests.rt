@@ -4,7 +4,7 @@ use std::process::Abort;
 use std::test::Fail;
 use xc_lex::lex;
 use xc_parse::parse;
-use xc_span::Pos;
+use xc_text_place::Pos;
 use xc_tree::Tree;
 
 fn tree_of(alloc: Global, source: &[u8]) -> Result<Result<Tree, CheckFault>, Fail> {

@@ -1,5 +1,5 @@
 use Rattle.std.proofs.Common.{subst, sym}
-use Rattle.xc_history.specs.History.{gathered}
+use Rattle.xc_commute_histories.specs.History.{gathered}
 use Rattle.xc_commute.specs.Replay.{Keeps, thread_of}
 use Rattle.xc_commute.proofs.Edits.{gathered_keeps}
 use Rattle.xc_commute.proofs.events.gather.Goals as goal

@@ -1,4 +1,4 @@
-use Rattle.xc_history.proofs.GoesBackProof.{goes_back}
+use Rattle.xc_commute_histories.proofs.GoesBackProof.{goes_back}
 use Rattle.xc_commute.specs.Threads.{IsTrap}
 use Rattle.xc_commute.proofs.Deeds.{quiet_by_touches}
 use Rattle.xc_commute.proofs.threads.memory_teams_go_back.Goals as goal

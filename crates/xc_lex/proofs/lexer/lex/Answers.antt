@@ -1,5 +1,5 @@
 use Rattle.std.proofs.Common.{◌≡◌, ◌<◌, ◌∙◌, ℕ, take, List, [], length, Bool, ap, sym, subst, arith}
-use Rattle.xc_span.specs.Place.{line_of, column_of}
+use Rattle.xc_text_place.specs.Place.{line_of, column_of}
 use Rattle.xc_lex.specs.declared.token.Token.{Token}
 use Rattle.xc_lex.specs.declared.macros.Macro.{Macro}
 use Rattle.xc_lex.specs.declared.macros.Made.{Made}

@@ -1,6 +1,6 @@
 use Rattle.std.proofs.Common.{◌≡◌, ◌+◌, ◌++◌, ◌∷◌, [], suc, length, map, take, refl, sym, ap, ◌∙◌, arith}
 use Rattle.std.proofs.lemmas.List.{take_all}
-use Rattle.xc_action.specs.World.{segs_of}
+use Rattle.xc_meaning_world.specs.World.{segs_of}
 use Rattle.xc_isa.specs.Texts.{cells_of}
 use Rattle.xc_machine.specs.Shows.{segs_in}
 use Rattle.xc_machine.proofs.Globals.{none_yet, global_added, taken_more, taken_count}

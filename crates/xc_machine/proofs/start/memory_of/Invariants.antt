@@ -1,5 +1,5 @@
 use Rattle.std.proofs.Common.{◌≡◌, map, take}
-use Rattle.xc_action.specs.World.{segs_of}
+use Rattle.xc_meaning_world.specs.World.{segs_of}
 use Rattle.xc_isa.specs.Texts.{cells_of}
 use Rattle.xc_machine.specs.Shows.{segs_in}
 use Rattle.xc_machine.proofs.start.memory_of.Given as goal

@@ -1,9 +1,9 @@
 use Rattle.std.proofs.Common.{◌≡◌, ℕ, [], length, sym, ap, ◌∙◌, subst, arith}
 use Rattle.std.proofs.lemmas.List.{length-map}
 use Rattle.std.specs.Prelude.{slice_range}
-use Rattle.xc_depth.specs.Depths.{IsFirstDeeper, depth_at}
+use Rattle.xc_parse_depth.specs.Depths.{IsFirstDeeper, depth_at}
 use Rattle.xc_raw.specs.Words.{word_of}
-use Rattle.xc_grammar.specs.Grammar.{leaves}
+use Rattle.xc_parse_grammar.specs.Grammar.{leaves}
 use Rattle.xc_parse.specs.Depth.{weight, depth_limit}
 use Rattle.xc_parse.specs.Nodes.{inside}
 use Rattle.xc_parse.proofs.Depth.{whole_solid, first_deep, shallow}

@@ -3,7 +3,7 @@ use Rattle.std.proofs.lemmas.List.{length-map}
 use Rattle.std.specs.Prelude.{List, slice_range}
 use Rattle.xc_lex.specs.declared.token.Token.{Token}
 use Rattle.xc_raw.specs.Words.{word_of}
-use Rattle.xc_grammar.specs.Plan.{act_of, planned}
+use Rattle.xc_parse_grammar.specs.Plan.{act_of, planned}
 use Rattle.xc_parse.specs.Texts.{words_of, Pushed}
 use Rattle.xc_parse.specs.declared.parser.Turn.TheVariants as turn
 use Rattle.xc_parse.proofs.Turns.{Taken, can_change, done, read, wrong_here, start_goes, more_here, done_here}

@@ -1,7 +1,7 @@
 use Rattle.std.proofs.Common.{◌≡◌, ◌<◌, ℕ, true, List, [], ◌∷◌, length, Option, Some, None, refl, sym, ap, ◌∙◌, arith}
 use Rattle.std.specs.Prelude.{MatchOption, is_some}
 use Rattle.std.proofs.lemmas.List.Splits.{length-slice_split}
-use Rattle.xc_line.specs.Lines.{is_space, words_of}
+use Rattle.xc_text_lines.specs.Lines.{is_space, words_of}
 use Rattle.xc_sched.specs.Drafts.{run_of}
 use Rattle.xc_sched.proofs.draft.run_of.Goals as goal
 

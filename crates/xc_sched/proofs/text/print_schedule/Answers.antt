@@ -1,7 +1,7 @@
 use Rattle.std.proofs.Common.{◌≡◌, drop, None, Result, Ok, Err, sym, ap, subst, ◌∙◌, arith}
 use Rattle.std.specs.Prelude.{IfOk}
 use Rattle.std.proofs.lemmas.List.{length-drop}
-use Rattle.xc_line.specs.Lines.{HasFewLines}
+use Rattle.xc_text_lines.specs.Lines.{HasFewLines}
 use Rattle.xc_sched.specs.Runs.{text_of}
 use Rattle.xc_sched.proofs.RunLemmas.{unique}
 use Rattle.xc_sched.proofs.Laws.{few_lines}

@@ -1,5 +1,5 @@
 use Rattle.std.proofs.Common.{◌≡◌, ◌^◌, Err, inl, inr, refl, sym, ap, ◌∙◌, subst}
-use Rattle.xc_words.specs.Commands.{file_in}
+use Rattle.xc_top_words.specs.Commands.{file_in}
 use Rattle.xc_top.specs.declared.fetch.Unread.TheVariants.{Said}
 use Rattle.xc_top.specs.Seen.{ShelfSeen}
 use Rattle.xc_top.specs.Answers.{IsUnreadAt, limit_in}

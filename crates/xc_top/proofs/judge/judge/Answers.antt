@@ -1,6 +1,6 @@
 use Rattle.std.proofs.Common.{ap, sym, ◌∙◌, Bor}
 use Rattle.std.specs.Option.{option_map}
-use Rattle.xc_words.specs.declared.command.Options.{Options}
+use Rattle.xc_top_words.specs.declared.command.Options.{Options}
 use Rattle.xc_top.specs.Judges.{Written}
 use Rattle.xc_top.proofs.Judging.{ok_map, was_executed}
 use Rattle.xc_top.proofs.judge.judge.Goals as goal

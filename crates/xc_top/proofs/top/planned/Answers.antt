@@ -1,7 +1,7 @@
 use Rattle.std.proofs.Common.{ap, sym, subst, ◌∙◌, map, Err}
 use Rattle.std.specs.Option.{option_map}
 use Rattle.std.specs.Prelude.{string_bytes}
-use Rattle.xc_words.specs.Words.{command_of}
+use Rattle.xc_top_words.specs.Words.{command_of}
 use Rattle.xc_top.specs.Seen.{ShelfSeen}
 use Rattle.xc_top.specs.Lines.{line_of}
 use Rattle.xc_top.specs.Judges.{Judges}

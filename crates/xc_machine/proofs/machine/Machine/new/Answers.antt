@@ -1,7 +1,7 @@
 use Rattle.std.proofs.Common.{◌≡◌, ◌<◌, ◌≤◌, ◌^◌, ◌-◌, ◌∷◌, [], length, map, refl, sym, ap, ◌∙◌, subst, arith}
 use Rattle.std.specs.Prelude.{Some, None, slice_set, replicate}
 use Rattle.std.specs.List.{sum_by}
-use Rattle.xc_action.specs.World.{segs_of}
+use Rattle.xc_meaning_world.specs.World.{segs_of}
 use Rattle.xc_isa.specs.Texts.{cells_of, size_of}
 use Rattle.xc_isa.specs.Machine.{Live, Empty, start, live_words, words_up_to}
 use Rattle.xc_machine.specs.declared.start.NewFault.TheVariants.{Words}

@@ -1,5 +1,5 @@
 use Rattle.std.proofs.Common.{rules, ◌≡◌, ◌+◌, length, refl, sym, ap, ◌∙◌, arith}
-use Rattle.xc_action.specs.World.{Got}
+use Rattle.xc_meaning_world.specs.World.{Got}
 use Rattle.xc_isa.specs.Machine.{words_up_to}
 use Rattle.xc_machine.specs.Shows.{segs_in, world_in}
 use Rattle.std.specs.Prelude.{Some}

@@ -1,6 +1,6 @@
 use Rattle.std.proofs.Common.{ap, ◌∙◌, sym}
 use Rattle.xc_isa.specs.Machine.{Live}
-use Rattle.xc_action.specs.World.{put}
+use Rattle.xc_meaning_world.specs.World.{put}
 use Rattle.xc_machine.proofs.Slots.{begun_regs}
 use Rattle.xc_machine.proofs.stream.Stream.begun.Goals as goal
 

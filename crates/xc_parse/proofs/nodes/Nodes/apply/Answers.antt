@@ -1,7 +1,7 @@
 use Rattle.std.proofs.Common.{◌≡◌, length, Some, sym, ap, ◌∙◌, subst, arith}
 use Rattle.std.proofs.lemmas.Option.{same_Some}
-use Rattle.xc_grammar.specs.declared.goals.Shape.TheVariants as shape
-use Rattle.xc_grammar.specs.Building.{spell, apply}
+use Rattle.xc_parse_grammar.specs.declared.goals.Shape.TheVariants as shape
+use Rattle.xc_parse_grammar.specs.Building.{spell, apply}
 use Rattle.xc_parse.specs.Nodes.{Builds, nowhere}
 use Rattle.xc_parse.proofs.Changes.{enough, one, two}
 use Rattle.xc_parse.proofs.nodes.Nodes.apply.Goals as goal

@@ -1,7 +1,7 @@
 use Rattle.std.proofs.Common.{◌+◌, ◌≤◌, ◌∷◌, ◌++◌, length, refl, sym, ap, ◌∙◌, arith, length-append}
 use Rattle.xc_raw.specs.declared.rule.Rule.TheVariants as rule
-use Rattle.xc_grammar.specs.Grammar.{begin, ◌▹◌, leaves}
-use Rattle.xc_grammar.specs.Building.{spell, retitle}
+use Rattle.xc_parse_grammar.specs.Grammar.{begin, ◌▹◌, leaves}
+use Rattle.xc_parse_grammar.specs.Building.{spell, retitle}
 use Rattle.xc_parse.specs.Nodes.{inside, nowhere}
 use Rattle.xc_parse.proofs.Changes.{kept, retitle_leaves}
 use Rattle.xc_parse.proofs.nodes.Nodes.call.Goals as goal

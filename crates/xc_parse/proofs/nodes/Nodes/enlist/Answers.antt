@@ -1,8 +1,8 @@
 use Rattle.std.proofs.Common.{◌+◌, ◌≤◌, ◌∷◌, ◌++◌, length, sym, ap, ◌∙◌, arith, length-append}
 use Rattle.std.proofs.lemmas.List.{append-nil}
 use Rattle.xc_raw.specs.declared.rule.Rule.TheVariants as rule
-use Rattle.xc_grammar.specs.Grammar.{begin, ◌▹◌, leaves}
-use Rattle.xc_grammar.specs.Building.{spell}
+use Rattle.xc_parse_grammar.specs.Grammar.{begin, ◌▹◌, leaves}
+use Rattle.xc_parse_grammar.specs.Building.{spell}
 use Rattle.xc_parse.specs.Nodes.{inside, nowhere}
 use Rattle.xc_parse.proofs.Changes.{kept}
 use Rattle.xc_parse.proofs.nodes.Nodes.enlist.Goals as goal

@@ -1,9 +1,9 @@
 use Rattle.std.proofs.Common.{◌+◌, ◌≤◌, ◌∷◌, ◌++◌, length, refl, sym, ap, ◌∙◌, subst, arith, length-append}
 use Rattle.std.specs.Prelude.{All}
-use Rattle.xc_depth.specs.Depths.{depth_at}
-use Rattle.xc_depth.specs.declared.stretch.Stretch.{Stretch}
-use Rattle.xc_grammar.specs.Grammar.{◌▹◌, leaves}
-use Rattle.xc_grammar.specs.Building.{spell}
+use Rattle.xc_parse_depth.specs.Depths.{depth_at}
+use Rattle.xc_parse_depth.specs.declared.stretch.Stretch.{Stretch}
+use Rattle.xc_parse_grammar.specs.Grammar.{◌▹◌, leaves}
+use Rattle.xc_parse_grammar.specs.Building.{spell}
 use Rattle.xc_parse.specs.Nodes.{IsOpen, inside}
 use Rattle.xc_parse.proofs.Changes.{Joins, joined_open, joined_builds}
 use Rattle.xc_parse.proofs.nodes.Nodes.join.Goals as goal

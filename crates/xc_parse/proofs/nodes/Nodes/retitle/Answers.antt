@@ -1,5 +1,5 @@
 use Rattle.std.proofs.Common.{length, refl, sym, ◌∙◌}
-use Rattle.xc_grammar.specs.Building.{spell, retitle}
+use Rattle.xc_parse_grammar.specs.Building.{spell, retitle}
 use Rattle.xc_parse.proofs.Changes.{kept, retitled, retitled_aside}
 use Rattle.xc_parse.proofs.nodes.Nodes.retitle.Goals as goal
 

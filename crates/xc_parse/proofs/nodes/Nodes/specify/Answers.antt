@@ -1,6 +1,6 @@
 use Rattle.std.proofs.Common.{◌∷◌}
 use Rattle.xc_raw.specs.declared.rule.Rule.TheVariants as rule
-use Rattle.xc_grammar.specs.Grammar.{begin}
+use Rattle.xc_parse_grammar.specs.Grammar.{begin}
 use Rattle.xc_parse.specs.Nodes.{nowhere}
 use Rattle.xc_parse.proofs.nodes.Nodes.specify.Goals as goal
 

@@ -1,7 +1,7 @@
 use Rattle.std.proofs.Common.{◌+◌, ◌∷◌, length, sym, ap, ◌∙◌, subst}
 use Rattle.std.proofs.lemmas.List.{append-nil}
-use Rattle.xc_grammar.specs.Grammar.{begin}
-use Rattle.xc_grammar.specs.Building.{spell}
+use Rattle.xc_parse_grammar.specs.Grammar.{begin}
+use Rattle.xc_parse_grammar.specs.Building.{spell}
 use Rattle.xc_parse.specs.Nodes.{IsOpen, inside}
 use Rattle.xc_parse.proofs.nodes.Nodes.under.Goals as goal
 

@@ -1,7 +1,7 @@
 use Rattle.std.proofs.Common.{◌++◌, length, sym, ap, ◌∙◌}
 use Rattle.std.proofs.lemmas.List.{append-nil}
-use Rattle.xc_grammar.specs.Grammar.{begin, leaves}
-use Rattle.xc_grammar.specs.Building.{spell}
+use Rattle.xc_parse_grammar.specs.Grammar.{begin, leaves}
+use Rattle.xc_parse_grammar.specs.Building.{spell}
 use Rattle.xc_parse.proofs.nodes.Nodes.wrap.Goals as goal
 
 pub returns-clause-wrapped : goal.returns-clause-wrapped

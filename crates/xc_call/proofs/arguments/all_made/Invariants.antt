@@ -1,6 +1,0 @@
-use Rattle.std.proofs.Common.{◌≡◌}
-use Rattle.xc_call.specs.Arguments.{all_made}
-use Rattle.xc_call.proofs.arguments.all_made.Given as goal
-
-abbrev pub invariant-loop-arg : goal.invariant-loop-arg
-invariant-loop-arg l = l.made ≡ all_made l.yielded

@@ -1,2 +1,0 @@
-//! What calls make is well typed where their arguments are.
-#![tactic(auto)]

@@ -1,5 +1,0 @@
-use Rattle.std.proofs.Common.{◌≡◌, take}
-use Rattle.xc_copy.proofs.expr.+copy_expression.Given as goal
-
-abbrev pub invariant-copy_all-loop-e : goal.invariant-copy_all-loop-e
-invariant-copy_all-loop-e l = l.all ≡ take l.e-index l.e-items

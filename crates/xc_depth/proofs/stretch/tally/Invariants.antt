@@ -1,6 +1,0 @@
-use Rattle.std.proofs.Common.{take}
-use Rattle.xc_depth.specs.Depths.{Tallied}
-use Rattle.xc_depth.proofs.stretch.tally.Given as goal
-
-abbrev pub invariant-stretches : goal.invariant-stretches
-invariant-stretches l = Tallied (take l.stretch-index l.stretches) l.count l.begins.items l.ends.items

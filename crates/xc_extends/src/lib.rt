@@ -1,2 +1,0 @@
-//! What is kept from one place of a text to a later one, and what is claimed of its parts.
-#![tactic(auto)]

@@ -1,0 +1,5 @@
+pub mod Effects
+pub mod Changes
+pub mod Purity
+pub mod Normal
+pub mod Concurrency

@@ -1,5 +1,0 @@
-use Rattle.xc_history.proofs.GoesBackProof.{goes_back}
-use Rattle.xc_history.proofs.theorem.team_runs_go_back.Goals as goal
-
-pub returns : goal.returns
-returns g c = goes_back g.P.Threads.program g.P.Threads.cells g.P.Threads.traps c.requires.quiet c.requires.each_loop

@@ -1,9 +1,0 @@
-use Rattle.std.proofs.Common.{refl}
-use Rattle.xc_history.proofs.Fills.{quiet, each_loop, later_first}
-use Rattle.xc_history.proofs.two_fills.two_fills_go_back.Goals as goal
-
-pub team_runs_go_back-requires : goal.team_runs_go_back-requires
-team_runs_go_back-requires c = record { quiet = quiet; each_loop = each_loop }
-
-pub returns-clause-ends : goal.returns-clause-ends
-returns-clause-ends c = (_, _, refl, later_first)

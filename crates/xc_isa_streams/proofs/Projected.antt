@@ -1,0 +1,120 @@
+-- Every run of the machine stands for actions of its threads.
+use Rattle.std.proofs.Common.{◌≡◌, ◌≤◌, ◌+◌, ℕ, zero, suc, ◌<◌, List, [], ◌∷◌, length, Option, Some, None, refl, sym, ap, ◌∙◌, subst, arith, inl, ⊎_elim}
+use mathlib.Core.Path.{fun_ext}
+use Rattle.std.specs.Prelude.{slice_get, replicate, map, unwrap_or}
+use Rattle.std.proofs.lemmas.Option.{slice_get_past}
+use Rattle.std.proofs.lemmas.List.{length-map}
+use Rattle.xc_word.specs.declared.memory.Cell.{Cell}
+use Rattle.xc_meaning_world.specs.World.{World, put, segs_of, world_of}
+use Rattle.xc_meaning_world.proofs.Puts.{put_same}
+use Rattle.xc_isa.specs.declared.code.Code.{Code}
+use Rattle.xc_isa.specs.Texts.{cells_of}
+use Rattle.xc_isa.specs.Effects.{Regs, effect}
+use Rattle.xc_isa.specs.Machine as machine
+use Rattle.xc_isa.specs.Machine.{Slot, Empty, Live, State, After, in_slot, step, start}
+use Rattle.xc_isa.specs.Runs.{Ran, onward, run}
+use Rattle.xc_isa_streams.specs.Class.{Class}
+use Rattle.xc_isa_streams.specs.Promises.{globals_of, first_parts, AlwaysOwn, AlwaysFair, view, parted, own_view, Seats, Core, Stage, Stood, Fallen}
+use Rattle.xc_isa_streams.proofs.Views.{view_mine, view_none}
+use Rattle.xc_isa_streams.proofs.Cores.{core_new}
+use Rattle.xc_isa_streams.proofs.Steps.{Reached, takes_inv}
+
+all_free : (n s pc : ℕ) (r : Regs) → slice_get (replicate n Empty) s ≡ Some (Live pc r) → ⊥
+all_free zero s pc r h = cc
+all_free (suc n) zero pc r h = cc
+all_free (suc n) (suc s) pc r h = all_free n s pc r h
+
+-- no segment past the globals is live
+pub globals_high : (globals : List (List Cell)) (g : ℕ) → length globals < g → segs_of globals g ≡ []
+globals_high globals zero lt = absurd (omega arith)
+globals_high globals (suc g) lt = ap (λ o. unwrap_or o []) (slice_get_past globals g (omega arith))
+
+module _ (of : ℕ → Class) (code : Code) where
+  abbrev first_world : World
+  first_world = world_of (map cells_of code.globals)
+
+  -- all segments are the source's
+  abbrev first_owner : ℕ → ℕ
+  first_owner g = 0
+
+  whole : (m : ℕ → List Cell) → m ≡ view 0 first_owner m
+  whole m = fun_ext (λ g. sym (view_mine 0 first_owner m g refl))
+
+  nothing : (c : ℕ) (m : ℕ → List Cell) → view (suc c) first_owner m ≡ (λ g. [])
+  nothing c m = view_none (suc c) first_owner m (λ g e. omega (arith, e))
+
+  first_is : first_parts code ≡ parted first_owner first_world
+  first_is =
+      ap (λ m. record { source = record { segs = m; out = [] }; side = λ g. [] }) (whole first_world.segs)
+      ∙ ap (λ m. record { source = record { segs = view 0 first_owner first_world.segs; out = [] }; side = m }) (sym (nothing 0 first_world.segs))
+
+  first_live : (n s pc : ℕ) (r : Regs) → slice_get (Live 0 (put (λ x. 0) 1 0) ∷ replicate n Empty) s ≡ Some (Live pc r) → s ≡ 0
+  first_live n zero pc r h = refl
+  first_live n (suc s) pc r h = absurd (all_free n s pc r h)
+
+  first_seats : (n : ℕ) → Seats (Live 0 (put (λ x. 0) 1 0) ∷ replicate n Empty) (λ s. s) (Live 0 (put (λ x. 0) 1 0) ∷ [])
+  first_seats n = record { live = live; one = λ s s' pc pc' r r' h h' q. q; found = found }
+    where
+      live : (s pc : ℕ) (r : Regs) → slice_get (Live 0 (put (λ x. 0) 1 0) ∷ replicate n Empty) s ≡ Some (Live pc r) → slice_get (Live 0 (put (λ x. 0) 1 0) ∷ []) s ≡ Some (Live pc r)
+      live zero pc r h = h
+      live (suc s) pc r h = absurd (all_free n s pc r h)
+
+      found : (a pc : ℕ) (r : Regs) → slice_get (Live 0 (put (λ x. 0) 1 0) ∷ []) a ≡ Some (Live pc r) → (s : ℕ) × (slice_get (Live 0 (put (λ x. 0) 1 0) ∷ replicate n Empty) s ≡ Some (Live pc r)) × (s ≡ a)
+      found zero pc r h = (0, h, refl)
+      found (suc a) pc r h = cc
+
+  first_core : Core of code (Live 0 (put (λ x. 0) 1 0) ∷ []) (0 ∷ []) (λ a. own_view a first_owner first_world.segs) (globals_of code) ((0, 0) ∷ []) []
+  first_core = core_new of code [] [] [] (λ a. own_view a first_owner first_world.segs) (globals_of code) [] 0 0 (record { each = λ a at arg h. cc; none = λ a h. (refl, refl); long = refl; counted = refl }) (omega arith) (inl (refl, refl)) (nothing 1 first_world.segs)
+
+  first_high : (g : ℕ) → globals_of code < g → first_world.segs g ≡ []
+  first_high g lt = globals_high (map cells_of code.globals) g (omega (arith, lt, length-map code.globals cells_of))
+
+  first_stage : (n : ℕ) → Stage of code (Live 0 (put (λ x. 0) 1 0) ∷ replicate n Empty) first_world (globals_of code) 0
+  first_stage n = record {
+    l = [];
+    names = λ s. s;
+    acts = Live 0 (put (λ x. 0) 1 0) ∷ [];
+    steps = 0 ∷ [];
+    owner = first_owner;
+    seats = first_seats n;
+    core = first_core;
+    in_turn = tt;
+    serves = (first_is, omega arith);
+    known = λ g h. (refl, ⊎_elim (λ le. le) (λ no. absurd no) h);
+    sides = λ g h. absurd h;
+    owners = λ g. omega arith;
+    above = λ g lt. refl;
+    high = first_high;
+    from = omega arith;
+    all_steps = refl;
+  }
+
+  -- the machine starts with all registers 0
+  start_stage : (n : ℕ) → Stage of code (start code (suc n)).slots (start code (suc n)).world (start code (suc n)).last 0
+  start_stage n = subst (λ r. Stage of code (Live 0 r ∷ replicate n Empty) first_world (globals_of code) 0) (put_same (λ x. 0) 1 0 refl) (first_stage n)
+
+  module _ (always : AlwaysOwn of code) (fair : AlwaysFair of code) where
+    slot_inv : (s : ℕ) (slots : List Slot) (w : World) (last made : ℕ) → Stage of code slots w last made → (o : Option Slot) → slice_get slots s ≡ o → Reached of code always fair (suc made) (in_slot code o s slots w last)
+    slot_inv s slots w last made g None here = tt
+    slot_inv s slots w last made g (Some Empty) here = tt
+    slot_inv s slots w last made g (Some (Live pc r)) here = takes_inv of code always fair s pc r slots w last made g here (effect code.formats (slice_get code.instrs pc) pc r) refl
+
+    after_step : (ss : List ℕ) (made : ℕ) (x : After) (go : State → Ran) → Reached of code always fair made x → ((st : State) → Stage of code st.slots st.world st.last made → Stood of code (length ss + made) (go st)) → Stood of code (length ss + made) (onward x ss go)
+    after_step ss made (machine.At st) go h next = next st h
+    after_step [] made (machine.Trap kind) go h next = let n : made ≡ 0 + made = omega arith in subst (λ n. Fallen of code n) n h
+    after_step (s ∷ ss) made (machine.Trap kind) go h next = tt
+    after_step ss made machine.Waits go h next = tt
+    after_step ss made machine.Spent go h next = tt
+
+    run_inv : (ss : List ℕ) (st : State) (made : ℕ) → Stage of code st.slots st.world st.last made → Stood of code (length ss + made) (run code ss st)
+    run_inv [] st made g = let n : made ≡ 0 + made = omega arith in subst (λ n. Stage of code st.slots st.world st.last n) n g
+    run_inv (s ∷ ss) st made g =
+        let n : length ss + suc made ≡ suc (length ss) + made = omega arith in
+        subst (λ n. Stood of code n (run code (s ∷ ss) st)) n
+        (after_step ss (suc made) (step code s st) (run code ss) (slot_inv s st.slots st.world st.last made g (slice_get st.slots s) refl) (λ st g. run_inv ss st (suc made) g))
+
+    pub projected : (n : ℕ) → 1 ≤ n → (ss : List ℕ) → Stood of code (length ss) (run code ss (start code n))
+    projected zero one ss = absurd (omega arith)
+    projected (suc n) one ss =
+        let k : length ss + 0 ≡ length ss = omega arith in
+        subst (λ k. Stood of code k (run code ss (start code (suc n)))) k (run_inv ss (start code (suc n)) 0 (start_stage n))

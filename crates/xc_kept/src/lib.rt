@@ -1,2 +1,0 @@
-//! What operators make is well typed where their operands are.
-#![tactic(auto)]

@@ -1,9 +1,0 @@
-use Rattle.std.proofs.Common.{◌≡◌, take}
-use Rattle.xc_literal.specs.Constants.{constants_of, AreConstants}
-use Rattle.xc_literal.proofs.numbers.constants_of.Given as goal
-
-abbrev pub invariant-loop-token : goal.invariant-loop-token
-invariant-loop-token l = record {
-  numbers : l.numbers.items ≡ constants_of l.source (take l.token-index l.tokens);
-  known : AreConstants l.source l.known.entries;
-}

@@ -1,7 +1,0 @@
-use Rattle.std.proofs.Common.{◌≡◌, drop, map}
-use Rattle.xc_tree.specs.Lists.{some}
-use Rattle.xc_loop.specs.Changes.{unsettles}
-use Rattle.xc_loop.proofs.change.is_unsettled.Given as goal
-
-abbrev pub invariant-loop-effect : goal.invariant-loop-effect
-invariant-loop-effect l = some (map (unsettles l.pures) (drop l.effect-index l.effects)) ≡ some (map (unsettles l.pures) l.effects)

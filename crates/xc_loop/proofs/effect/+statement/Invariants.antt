@@ -1,6 +1,0 @@
-use Rattle.std.proofs.Common.{◌≡◌, ◌++◌, drop}
-use Rattle.xc_loop.specs.Effects.{stmts_effects}
-use Rattle.xc_loop.proofs.effect.+statement.Given as goal
-
-abbrev pub invariant-collect_stmts-loop-s : goal.invariant-collect_stmts-loop-s
-invariant-collect_stmts-loop-s l = l.out.items ++ stmts_effects (drop l.s-index l.list) ≡ l.initial.out.items ++ stmts_effects l.list

@@ -1,6 +1,0 @@
-use Rattle.std.proofs.Common.{◌≡◌, take, map}
-use Rattle.xc_lower.specs.Lowered.{lowered}
-use Rattle.xc_lower.proofs.expr.+lower_expression.Given as goal
-
-abbrev pub invariant-lower_all-loop-e : goal.invariant-lower_all-loop-e
-invariant-lower_all-loop-e l = l.all ≡ map (lowered l.addressed) (take l.e-index l.e-items)

@@ -1,6 +1,0 @@
-use Rattle.std.proofs.Common.{◌≡◌, take, map}
-use Rattle.xc_lower.specs.Lowered.{capture_with, lowered}
-use Rattle.xc_lower.proofs.stmt.lower_captures.Given as goal
-
-abbrev pub invariant-loop-c : goal.invariant-loop-c
-invariant-loop-c l = l.all ≡ map (capture_with (lowered l.addressed)) (take l.c-index l.c-items)

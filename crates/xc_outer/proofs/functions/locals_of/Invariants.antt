@@ -1,7 +1,0 @@
-use Rattle.std.proofs.Common.{◌≡◌, ◌++◌, drop, map}
-use Rattle.std.specs.Prelude.{zip}
-use Rattle.xc_outer.specs.Functions.{local_of}
-use Rattle.xc_outer.proofs.functions.locals_of.Given as goal
-
-abbrev pub invariant-locals : goal.invariant-locals
-invariant-locals l = l.all ++ map local_of (zip (drop l.at l.locals) (drop l.at l.addressed)) ≡ map local_of (zip l.locals l.addressed)

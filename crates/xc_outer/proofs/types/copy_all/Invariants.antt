@@ -1,5 +1,0 @@
-use Rattle.std.proofs.Common.{◌≡◌, ◌++◌, drop}
-use Rattle.xc_outer.proofs.types.copy_all.Given as goal
-
-abbrev pub invariant-types : goal.invariant-types
-invariant-types l = l.copies ++ drop l.ty-index l.all ≡ l.all

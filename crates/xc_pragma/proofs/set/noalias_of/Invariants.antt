@@ -1,6 +1,0 @@
-use Rattle.std.proofs.Common.{◌≡◌, ◌++◌, drop}
-use Rattle.xc_pragma.specs.Set.{noalias_of}
-use Rattle.xc_pragma.proofs.set.noalias_of.Given as goal
-
-abbrev pub invariant-loop-s : goal.invariant-loop-s
-invariant-loop-s l = l.roots ++ noalias_of (drop l.s-index l.all) ≡ noalias_of l.all

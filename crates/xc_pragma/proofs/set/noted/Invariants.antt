@@ -1,6 +1,0 @@
-use Rattle.std.proofs.Common.{◌≡◌, ◌++◌, drop}
-use Rattle.xc_pragma.specs.Set.{noted}
-use Rattle.xc_pragma.proofs.set.noted.Given as goal
-
-abbrev pub invariant-loop-g : goal.invariant-loop-g
-invariant-loop-g l = l.notes ++ noted (drop l.g-index l.given) ≡ noted l.given

@@ -1,6 +1,0 @@
-use Rattle.std.proofs.Common.{◌≡◌, drop}
-use Rattle.xc_pragma.specs.Set.{union}
-use Rattle.xc_pragma.proofs.set.union.Given as goal
-
-abbrev pub invariant-loop-g : goal.invariant-loop-g
-invariant-loop-g l = union l.marks.0 (drop l.g-index l.given) ≡ union 0 l.given

@@ -1,5 +1,0 @@
-pub mod Names
-pub mod Elements
-pub mod Members
-pub mod Addresses
-pub mod Whole

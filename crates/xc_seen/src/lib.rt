@@ -1,2 +1,0 @@
-//! What rules make names no more locals than their parts do.
-#![tactic(auto)]

@@ -1,2 +1,0 @@
-//! Each node of a text has the parts and the words that its rule asks for.
-#![tactic(auto)]

@@ -1,6 +1,0 @@
-use Rattle.std.proofs.Common.{◌≡◌, ◌+◌, drop}
-use Rattle.xc_spot.specs.Names.{names_from}
-use Rattle.xc_spot.proofs.names.first_name.Given as goal
-
-abbrev pub invariant-tokens : goal.invariant-tokens
-invariant-tokens l = record { same : names_from l.number (drop l.token-index l.own) ≡ names_from l.from l.own; count : l.number ≡ l.from + l.token-index }

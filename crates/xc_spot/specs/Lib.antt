@@ -1,5 +1,0 @@
-pub mod Names
-pub mod Operators
-pub mod Places
-pub mod Spans
-pub mod Nodes

@@ -1,9 +1,0 @@
-use Rattle.std.proofs.Common.{◌≡◌, ◌≤◌, take, length}
-use Rattle.xc_types.specs.Declarators.{arrayed}
-use Rattle.xc_types.proofs.declarators.arrayed.Given as goal
-
-abbrev pub invariant-bounds : goal.invariant-bounds
-invariant-bounds l = (l.left ≤ length l.bounds) × (arrayed (take l.left l.bounds) l.ty ≡ arrayed l.bounds l.fn.of)
-
-abbrev pub decreases-bounds : goal.decreases-bounds
-decreases-bounds l = l.left

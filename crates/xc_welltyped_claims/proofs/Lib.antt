@@ -1,0 +1,17 @@
+pub mod RankLevels
+pub mod Lists
+pub mod Things
+pub mod Env
+pub mod Judges
+pub mod Nodes
+pub mod Strings
+pub mod Patterns
+pub mod Placed
+pub mod Parts
+pub mod Levels
+pub mod Keys
+pub mod Tokens
+pub mod Lexed
+pub mod Words
+pub mod Shaped
+pub mod Texts

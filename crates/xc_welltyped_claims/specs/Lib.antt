@@ -1,0 +1,10 @@
+pub mod Ranks
+pub mod Lists
+pub mod Types
+pub mod Table
+pub mod Things
+pub mod Env
+pub mod Judges
+pub mod Found
+pub mod Shaped
+pub mod Roles

@@ -1,0 +1,10 @@
+pub mod SeenForms
+pub mod SeenValues
+pub mod SeenOperators
+pub mod SeenPlaces
+pub mod SeenCalls
+pub mod UsedForms
+pub mod UsedValues
+pub mod UsedOperators
+pub mod UsedPlaces
+pub mod UsedCalls

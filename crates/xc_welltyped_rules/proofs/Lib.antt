@@ -1,0 +1,12 @@
+pub mod OperatorsSound
+pub mod Assigned
+pub mod OperatorsWhole
+pub mod Names
+pub mod Elements
+pub mod Members
+pub mod Addresses
+pub mod PlacesWhole
+pub mod Arguments
+pub mod Calls
+pub mod Accesses
+pub mod CallsWhole
