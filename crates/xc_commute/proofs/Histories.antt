@@ -1,7 +1,8 @@
 -- Histories of touches with their threads, newest first, that can be exchanged and gathered.
 use Rattle.std.proofs.Common.{◌≡◌, ◌≢◌, ℕ, List, ◌++◌, Option}
 use Rattle.xc_commute_histories.specs.History.{hist, Each, Is, of_owner, of_others}
-use Rattle.xc_commute_histories.specs.Runs.{own_step, owner, Indep}
+use Rattle.xc_commute_histories.specs.Runs.{owner, Indep}
+use Rattle.xc_commute_histories.specs.InnerRuns.{own_step}
 use Rattle.xc_commute_histories.proofs.Exchange as pairs
 use Rattle.xc_commute_histories.proofs.Owner.{Each-weaker}
 use Rattle.xc_commute_histories.proofs.Owner as owners

@@ -1,7 +1,8 @@
 -- What a parallel loop with no private scalar, reduction or recurrence owes to the induction.
 use Rattle.std.specs.Prelude.{Some}
 use Rattle.std.proofs.Common.{◌≡◌, ◌≢◌, ℕ, suc, zero, ◌<◌, ◌≤◌, List, [], ◌∷◌, ◌++◌, refl, ap, sym, ◌∙◌, subst, arith}
-use Rattle.xc_commute_histories.specs.History.{after, hist, Apart, Each, of_owner, Is, serial}
+use Rattle.xc_commute_histories.specs.History.{after, hist, Apart, Each, of_owner, Is}
+use Rattle.xc_commute_histories.specs.InnerHistory.{serial}
 use Rattle.xc_commute_histories.specs.Runs.{Program, Block, stays, goes}
 use Rattle.xc_commute_histories.proofs.Exchange.{hist-append, exchange}
 use Rattle.xc_commute_histories.proofs.Owner.{Each-append, Each-weaker, Each-of, Each-product}

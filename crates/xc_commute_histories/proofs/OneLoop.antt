@@ -2,7 +2,8 @@
 use Rattle.std.specs.Prelude.{Option}
 use Rattle.std.proofs.Common.{◌≡◌, ◌≢◌, ℕ, suc, zero, ◌<◌, ◌≤◌, List, [], ◌∷◌, ◌++◌, refl, ap, sym, ◌∙◌, true, false, eqb, arith, ◌⊎◌, inl, inr, eq-eqb, ne_eqb}
 use Rattle.std.proofs.lemmas.Bool.Decides.{eqb_tells}
-use Rattle.xc_commute_histories.specs.History.{after, hist, Apart, Both, Each, of_owner, of_others, Is, serial, TrapsLast, Serial, none_yet, one_more}
+use Rattle.xc_commute_histories.specs.History.{after, hist, Apart, Both, Each, of_owner, of_others, Is, TrapsLast}
+use Rattle.xc_commute_histories.specs.InnerHistory.{none_yet, one_more, serial, Serial}
 use Rattle.xc_commute_histories.proofs.Exchange.{hist-append, all_after}
 use Rattle.xc_commute_histories.proofs.Owner.{Each-append, Each-weaker, Each-of, Each-others, Each-product, gather_last, Is-before, Is-owner}
 

@@ -3,7 +3,8 @@ use Rattle.std.specs.Prelude.{Option, Some, None}
 use Rattle.std.proofs.Common.{◌≡◌, ◌≢◌, ℕ, List, [], ◌∷◌, ◌++◌, refl, ap, sym, ◌∙◌, subst, true, false, eqb, inl, inr, eq-eqb, ne_eqb}
 use Rattle.std.proofs.lemmas.Bool.Decides.{eqb_tells}
 use Rattle.xc_commute_histories.specs.History.{after, hist, Apart, Both, Each, of_owner, of_others, Is, TrapsLast}
-use Rattle.xc_commute_histories.specs.Runs.{Stand, Free, At, Does, Plain, In, erase, put, put_all, own_step, owner, acts, Program, Block, stays, goes, Source, begin, act, spawn, enter, go_on, TeamRun, begins, acts_alone, spawns, enters, member, leaves, Indep, CellsAt, Always, OpensAt, Quiet, OneLoop, by, Shows, nothing, outside, loop}
+use Rattle.xc_commute_histories.specs.Runs.{Stand, Free, At, Does, Plain, In, erase, put, put_all, owner, acts, Program, Block, stays, goes, Source, begin, act, spawn, enter, go_on, TeamRun, begins, acts_alone, spawns, enters, member, leaves, Indep, CellsAt, Always, OpensAt, Quiet, OneLoop, by, Shows, nothing, outside, loop}
+use Rattle.xc_commute_histories.specs.InnerRuns.{own_step}
 use Rattle.xc_commute_histories.proofs.Exchange.{hist-append, exchange, past, Apart-sym, all_after}
 use Rattle.xc_commute_histories.proofs.Owner.{Each-append, Each-weaker, Each-of, Each-others, Each-product, gather_first, Is-before, Is-along}
 

@@ -3,7 +3,8 @@ use Rattle.std.specs.Prelude.{Some}
 use Rattle.std.proofs.Common.{[], ◌≡◌, ◌≢◌, ℕ, List, ◌∷◌, refl, ap, sym, ◌∙◌, subst, true, false, eqb, eq-eqb, ne_eqb, ◌⊎◌, inl, inr}
 use Rattle.std.proofs.lemmas.Bool.Decides.{eqb_tells}
 use Rattle.xc_commute_histories.specs.History.{Each, after, hist, of_owner, Is}
-use Rattle.xc_commute_histories.specs.Runs.{Stand, Free, At, Does, erase, put, put_all, own_step, owner, acts, Program, Block, stays, goes, Source, begin, act, spawn, enter, go_on, Indep, CellsAt, Quiet}
+use Rattle.xc_commute_histories.specs.Runs.{Stand, Free, At, Does, erase, put, put_all, owner, acts, Program, Block, stays, goes, Source, begin, act, spawn, enter, go_on, Indep, CellsAt, Quiet}
+use Rattle.xc_commute_histories.specs.InnerRuns.{own_step}
 
 abbrev pub state_of : {S M : Type 0} → Stand S M → S
 state_of (Free t) = t

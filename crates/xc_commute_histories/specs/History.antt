@@ -1,5 +1,5 @@
 -- Histories: lists of actions, the newest first, and when two actions can be exchanged.
-use Rattle.std.specs.Prelude.{◌≡◌, ℕ, zero, suc, Option, Some, None, List, [], ◌∷◌, ◌++◌, not, nat_eq, filter}
+use Rattle.std.specs.Prelude.{◌≡◌, ℕ, Option, Some, None, List, [], ◌∷◌, ◌++◌, not, nat_eq, filter}
 
 -- what a step does after one that may have failed
 abbrev pub after : {M : Type 0} → (M → Option M) → Option M → Option M
@@ -40,20 +40,10 @@ Is {M} o = (k : M) × (o ≡ Some k)
 abbrev pub Both : {A M : Type 0} → (A → M → Option M) → A → A → Type 0
 Both {A} {M} step a b = (m : M) → Is (step a m) → Is (step b m) → Is (after (step a) (step b m))
 
--- iterations 0 to t - 1, one after another
-abbrev pub serial : {A : Type 0} → (A → ℕ) → ℕ → List A → List A
-serial who zero xs = []
-serial who (suc t) xs = of_owner who t xs ++ serial who t xs
-
 -- the newest action is a trap
 abbrev pub TrapsLast : {A : Type 0} → (A → Type 0) → List A → Type 0
 TrapsLast Traps [] = ⊥
 TrapsLast Traps (e ∷ h) = Traps e
-
--- a serial run of the iterations 0 to t - 1, each whole
-pub data Serial {A : Type 0} (T Done : ℕ → List A → Type 0) : ℕ → List A → Type 0 where
-  none_yet : Serial T Done zero []
-  one_more : {t : ℕ} {g : List A} → Serial T Done t g → (h : List A) → T t h → Done t h → Serial T Done (suc t) (h ++ g)
 
 -- the memory after a list of actions in the order of time
 abbrev pub play : {A M : Type 0} → (A → M → Option M) → List A → M → Option M

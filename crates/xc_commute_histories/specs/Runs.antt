@@ -21,11 +21,6 @@ erase (At s m) = In s
 abbrev pub put : {X : Type 0} → (ℕ → X) → ℕ → X → ℕ → X
 put f u x v = if nat_eq v u then x else f v
 
--- a pending action of an open loop: its thread, and what was done
--- what a thread's action does to memory
-abbrev pub own_step : {A M : Type 0} → (A → M → Option M) → (ℕ × A) → M → Option M
-own_step step x m = step x.1 m
-
 -- the thread of an action
 abbrev pub owner : {A : Type 0} → (ℕ × A) → ℕ
 owner x = x.0

@@ -7,7 +7,7 @@ use std::alloc::AllocError;
 use xc_text_place::Pos;
 
 /// The kinds of refusals, in the order in which they are asked.
-#[derive(Clone, Copy, Debug, PartialEq, Eq)]
+#[derive(Clone, Copy, PartialEq, Eq)]
 pub enum RefusalKind {
     /// The text has no tokens.
     Lex,
@@ -26,14 +26,14 @@ pub enum RefusalKind {
 }
 
 /// A refusal with its place.
-#[derive(Clone, Copy, Debug, PartialEq, Eq)]
+#[derive(Clone, Copy)]
 pub struct Refusal {
     pub kind: RefusalKind,
     pub at: Pos,
 }
 
 /// Why a source has no code.
-#[derive(Clone, Copy, Debug, PartialEq, Eq)]
+#[derive(Clone, Copy)]
 pub enum CompileFault {
     NoMemory,
     Refused(Refusal),

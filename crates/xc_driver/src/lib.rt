@@ -6,6 +6,3 @@ mod fault;
 
 pub use compiler::{Compiled, compile};
 pub use fault::{CompileFault, Refusal, RefusalKind};
-
-#[cfg(test)]
-mod tests;

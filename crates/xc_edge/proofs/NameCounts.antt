@@ -1,7 +1,7 @@
 use Rattle.std.proofs.Common.{◌≡◌, ◌≢◌, ℕ, ◌+◌, cond, List, [], ◌∷◌, ◌++◌, bytes_eq, arith}
 use Rattle.std.proofs.lemmas.Slice.Eq.{bytes_eq-Decides}
 use Rattle.std.proofs.lemmas.List.Sums.{sum_by-append}
-use Rattle.xc_edge.specs.ShelfState.{name_count}
+use Rattle.xc_edge.specs.InnerShelfState.{name_count}
 
 name_count-push : (names : List (List ℕ)) (name other : List ℕ) → name_count (names ++ name ∷ []) other ≡ name_count names other + cond (bytes_eq name other) 1 0
 name_count-push names name other = omega (arith, sum_by-append (λ x. cond (bytes_eq x other) 1 0) names (name ∷ []))

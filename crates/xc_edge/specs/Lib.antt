@@ -1,4 +1,6 @@
 pub mod Counts
 pub mod Gained
 pub mod ShelfState
+pub mod InnerShelfState
 pub mod SinkState
+pub mod InnerSinkState

@@ -10,6 +10,3 @@ pub use memory::{MemShelf, MemSink};
 pub use real::{DirShelf, StdSink};
 pub use shelf::{Fetch, Shelf};
 pub use sink::{Failed, Sink, put_all};
-
-#[cfg(test)]
-mod tests;

@@ -2,8 +2,9 @@
 ghost use Rattle.std.specs.Prelude.{◌≡◌, ◌+◌, ◌-◌, ◌<◌, ◌≤◌, ◌≢◌, ◌⊎◌, ◌↔◌, ◌++◌, ◌∷◌, ℕ, List, Option, [], None, Some, length, take, map, min, vec_len, string_bytes, IfOk, IsErr, IsErrOf, IsSomeAnd, OnOk, OnErr, IfSome, Contains};
 ghost use Rattle.std.specs.Option.{option_copied};
 ghost use Rattle.xc_edge.specs.Counts.{raised};
-ghost use Rattle.xc_edge.specs.ShelfState.{entries, file_named, name_count, IsToFail, next_call};
-ghost use Rattle.xc_edge.specs.SinkState.{IsRefused, next_put};
+ghost use Rattle.xc_edge.specs.ShelfState.{entries};
+ghost use Rattle.xc_edge.specs.InnerShelfState.{file_named, name_count, IsToFail, next_call};
+ghost use Rattle.xc_edge.specs.InnerSinkState.{IsRefused, next_put};
 
 use crate::shelf::{Fetch, Shelf};
 use crate::sink::{Failed, Sink};

@@ -6,7 +6,8 @@ use Rattle.std.proofs.lemmas.Grind.{common_steps}
 use Rattle.xc_tree.specs.declared.tree.Func.{Func}
 use Rattle.xc_tree.specs.Lists.{every}
 use Rattle.xc_tree.specs.declared.stmt.Stmt.{Stmt}
-use Rattle.xc_form.specs.Normal.{exits, any_exits}
+use Rattle.xc_form.specs.Normal.{exits}
+use Rattle.xc_form.specs.InnerNormal.{any_exits}
 use Rattle.xc_form.specs.Purity.{is_pure, purity_from}
 
 -- what passes leaves the rest to decide

@@ -76,9 +76,6 @@ abbrev pub fixity : List Effect → Bool → Expr → Fixity
 fixity es unsettled = fold-Expr Fixity Fixity (fixity_step es unsettled)
     (λ e. record { global = cond (leads_to_plain e.ty) e.kind.global None; ok = e.kind.ok })
 
-abbrev pub plain_global : List Effect → Bool → Expr → Option ℕ
-plain_global es unsettled e = (fixity es unsettled e).global
-
 abbrev pub is_fixed : List Effect → Bool → Expr → Bool
 is_fixed es unsettled e = (fixity es unsettled e).ok
 

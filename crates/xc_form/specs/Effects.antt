@@ -118,25 +118,11 @@ deeds_of = fold-Expr Row Deeds deeds_step (λ e. record {
 abbrev pub root_of : Expr → Root
 root_of e = (deeds_of e).root
 
--- the array whose name the value is, else Other
-abbrev pub array_root : Expr → Root
-array_root e = (deeds_of e).array
-
 abbrev pub local_of : Expr → Option ℕ
 local_of e = (deeds_of e).local
 
--- the root of a write: a generic function, which is void, goes through a pointer
-abbrev pub written_root : Ty → Expr → Root
-written_root ty place = written_at ty (root_of place)
-
-abbrev pub is_zero : Expr → Bool
-is_zero e = (deeds_of e).zero
-
 abbrev pub expr_effects : Expr → List Effect
 expr_effects e = (deeds_of e).effects
-
-abbrev pub exprs_effects : List Expr → List Effect
-exprs_effects es = all_effects (map deeds_of es)
 
 -- statements -------------------------------------------------------------
 
@@ -176,6 +162,3 @@ stmt_effects_step (StmtKind-F.Future place captures body) = future_effects place
 
 abbrev pub stmt_effects : Stmt → List Effect
 stmt_effects = fold-Stmt (List Effect) (List Effect) stmt_effects_step (λ s. s.kind)
-
-abbrev pub stmts_effects : List Stmt → List Effect
-stmts_effects ss = joined (map stmt_effects ss)

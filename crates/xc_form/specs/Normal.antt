@@ -139,9 +139,6 @@ exits_step _ here = false
 abbrev pub exits : Stmt → Bool → Bool
 exits = fold-Stmt (Bool → Bool) (Bool → Bool) exits_step (λ s. s.kind)
 
-abbrev pub any_exits : List Stmt → Bool → Bool
-any_exits ss here = some (map (λ s. s here) (map exits ss))
-
 -- normal form ------------------------------------------------------------
 
 abbrev pub with_body : ℕ → BinOp → Step → Stmt → Result Header NotNormal

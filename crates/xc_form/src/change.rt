@@ -1,7 +1,8 @@
 //! What a loop leaves unchanged.
 
 ghost use Rattle.std.specs.Prelude.{◌≡◌};
-ghost use Rattle.xc_form.specs.Changes.{assigns, is_assigned, writes_global, is_written, unsettles, is_unsettled, divides, leads_to_plain, plain_global, is_fixed, is_unchanging};
+ghost use Rattle.xc_form.specs.Changes.{assigns, is_assigned, writes_global, is_written, unsettles, is_unsettled, divides, leads_to_plain, is_fixed, is_unchanging};
+ghost use Rattle.xc_form.specs.InnerChanges.{plain_global};
 
 use crate::effect::Effect;
 use xc_tree::{BinOp, Expr, ExprKind, Root, Ty};

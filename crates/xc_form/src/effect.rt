@@ -3,7 +3,8 @@
 ghost use Rattle.std.specs.Prelude.{◌≡◌, ◌++◌, [], ◌∷◌, OnOk, IfOk};
 ghost use Rattle.xc_tree.specs.Types.{is_void, array_under};
 ghost use Rattle.xc_tree.specs.Kinds.{read_kind, write_kind};
-ghost use Rattle.xc_form.specs.Effects.{root_of, array_root, local_of, is_zero, is_exact, written_root, expr_effects, exprs_effects, inits_effects, maybe_effects, captures_effects, start_effects, stmt_effects, stmts_effects};
+ghost use Rattle.xc_form.specs.Effects.{root_of, local_of, is_exact, expr_effects, inits_effects, maybe_effects, captures_effects, start_effects, stmt_effects};
+ghost use Rattle.xc_form.specs.InnerEffects.{array_root, is_zero, written_root, exprs_effects, stmts_effects};
 
 use sqlite_items::Items;
 use std::alloc::{AllocError, Global};
@@ -12,7 +13,7 @@ use xc_word::Kind;
 
 /// One thing that is done. The root of an access is the named object that it lies in; through a pointer, and by a
 /// generic function that leaves another value or state, it is `Other`.
-#[derive(Clone, Copy, Debug, PartialEq, Eq)]
+#[derive(Clone, Copy, PartialEq, Eq)]
 pub enum Effect {
     /// Gives a local that has no address a value.
     Set(u32),

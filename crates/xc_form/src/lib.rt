@@ -14,6 +14,3 @@ pub use effect::{Effect, effects_of, effects_of_expr, root_of};
 pub use normal::{Header, Step, normal_form};
 pub use pure::pure_functions;
 pub use xc_tree::NotNormal;
-
-#[cfg(test)]
-mod tests;

@@ -1,7 +1,8 @@
 //! Loops in normal form.
 
 ghost use Rattle.std.specs.Prelude.{◌≡◌, IsTrue, IfOk, slice_get};
-ghost use Rattle.xc_form.specs.Normal.{is_int_variable, index_of, is_order, is_local, order_of, bound_ok, step_by, constant_step, amount, sum_step, any_step, step_of, toward, exits, any_exits, with_body, normal_form, is_loop};
+ghost use Rattle.xc_form.specs.Normal.{is_int_variable, index_of, is_order, is_local, order_of, bound_ok, step_by, constant_step, amount, sum_step, any_step, step_of, toward, exits, with_body, normal_form, is_loop};
+ghost use Rattle.xc_form.specs.InnerNormal.{any_exits};
 
 use crate::change::{is_assigned, is_unchanging};
 use crate::effect::{Effect, effects_of, local_of};
@@ -10,14 +11,14 @@ use xc_tree::{BinOp, Expr, ExprKind, Local, LoopForm, NotNormal, Stmt, StmtKind}
 use xc_tree_words::{constant, is_int, is_uint};
 
 /// What is added to the index, or taken from it.
-#[derive(Clone, Copy, Debug, PartialEq, Eq)]
+#[derive(Clone, Copy, PartialEq, Eq)]
 pub struct Step {
     pub down: bool,
     pub size: u64,
 }
 
 /// The header of a loop in normal form: the index is compared with a bound by `order`.
-#[derive(Clone, Copy, Debug, PartialEq, Eq)]
+#[derive(Clone, Copy, PartialEq, Eq)]
 pub struct Header {
     pub index: u32,
     pub order: BinOp,

@@ -5,7 +5,8 @@ use Rattle.xc_word.specs.declared.memory.Kind.TheVariants.{ReadXx, WriteXf}
 use Rattle.xc_meaning_world.specs.World.{World, Request, On, Stop, Reach, Got, Dead, act_of, put, serve}
 use Rattle.xc_tree.specs.declared.operator.BinOp.{BinOp}
 use Rattle.xc_tree.specs.declared.operator.BinOp.TheVariants as op
-use Rattle.xc_tree_words.specs.Words.{truth, binary_word}
+use Rattle.xc_tree_words.specs.Words.{binary_word}
+use Rattle.xc_word.specs.Numbers.{truth}
 use Rattle.xc_isa.specs.declared.code.Code.{Code}
 use Rattle.xc_isa.specs.declared.instr.BinaryOp.{BinaryOp}
 use Rattle.xc_isa.specs.declared.instr.BinaryOp.TheVariants.{Add, Sub, Mul, And as BitAnd, Or as BitOr, Xor as BitXor, Shl, Shr, Sar, Slt, Sltu, Seq}

@@ -9,7 +9,8 @@ use Rattle.xc_text_format.specs.Pieces.{text_of}
 use Rattle.xc_tree.specs.declared.operator.BinOp.{BinOp}
 use Rattle.xc_tree.specs.declared.operator.UnOp.{UnOp}
 use Rattle.xc_tree.specs.declared.operator.UnOp.TheVariants as unary
-use Rattle.xc_tree_words.specs.Words.{truth, binary_word, unary_word}
+use Rattle.xc_tree_words.specs.Words.{binary_word, unary_word}
+use Rattle.xc_word.specs.Numbers.{truth}
 use Rattle.xc_isa.specs.declared.code.Code.{Code}
 use Rattle.xc_isa.specs.declared.instr.BinaryOp.TheVariants.{Sub}
 use Rattle.xc_isa.specs.declared.instr.LoadKind.TheVariants.{Ld}

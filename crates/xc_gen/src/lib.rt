@@ -8,6 +8,3 @@ mod program;
 
 pub use first::unbuilt;
 pub use program::code_of;
-
-#[cfg(test)]
-mod tests;

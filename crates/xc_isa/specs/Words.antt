@@ -8,16 +8,7 @@ use Rattle.xc_isa.specs.declared.instr.DivideOp.{DivideOp}
 use Rattle.xc_isa.specs.declared.instr.DivideOp.TheVariants.{Div, Divu, Rem, Remu}
 use Rattle.xc_isa.specs.declared.instr.Test.{Test}
 use Rattle.xc_isa.specs.declared.instr.Test.TheVariants.{Zero, NotZero}
-
--- the signed number that a word stands for, in two's complement, and its word
-abbrev pub signed : ℕ → ℤ
-signed x = cast_signed w64 x
-
-abbrev pub word : ℤ → ℕ
-word z = cast_unsigned w64 z
-
-abbrev pub truth : Bool → ℕ
-truth holds = if holds then 1 else 0
+use Rattle.xc_word.specs.Numbers.{signed, word, truth}
 
 -- sums, differences, products and shifts to the left are modulo 2^64; counts of shifts are modulo 64
 abbrev pub binary : BinaryOp → ℕ → ℕ → ℕ

@@ -7,14 +7,14 @@ use sqlite_items::Items;
 use xc_word::Cell;
 
 /// So many cells alike.
-#[derive(Clone, Copy, Debug, PartialEq, Eq)]
+#[derive(Clone, Copy)]
 pub struct Run {
     pub count: u32,
     pub cell: Cell,
 }
 
 /// Where a parallel loop stands: its id, and the positions of its entry, its worker, its serial version and its exit.
-#[derive(Clone, Copy, Debug, PartialEq, Eq)]
+#[derive(Clone, Copy)]
 pub struct LoopMark {
     pub id: u32,
     pub start: u32,
@@ -24,7 +24,7 @@ pub struct LoopMark {
 }
 
 /// Where the value of a local stands: in a register, or in the cell at an offset of the frame that r23 points to.
-#[derive(Clone, Copy, Debug, PartialEq, Eq)]
+#[derive(Clone, Copy)]
 pub enum Home {
     Reg(Reg),
     Frame(u32),

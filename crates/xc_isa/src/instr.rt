@@ -5,7 +5,7 @@ ghost use Rattle.std.specs.Prelude.{◌≡◌, ◌<◌};
 use std::marker::Model;
 
 /// A register, r0 to r31. Register r0 reads 0.
-#[derive(Clone, Copy, Debug, PartialEq, Eq)]
+#[derive(Clone, Copy)]
 pub struct Reg {
     number: u8,
 }
@@ -39,7 +39,7 @@ impl Reg {
 }
 
 /// An operation on two registers. It never traps.
-#[derive(Clone, Copy, Debug, PartialEq, Eq)]
+#[derive(Clone, Copy)]
 pub enum BinaryOp {
     /// The sum, modulo 2^64.
     Add,
@@ -68,7 +68,7 @@ pub enum BinaryOp {
 }
 
 /// A division of two registers. It traps where the divisor is 0.
-#[derive(Clone, Copy, Debug, PartialEq, Eq)]
+#[derive(Clone, Copy)]
 pub enum DivideOp {
     /// The signed quotient, towards 0; the least number over -1 is itself.
     Div,
@@ -81,7 +81,7 @@ pub enum DivideOp {
 }
 
 /// How a cell is read.
-#[derive(Clone, Copy, Debug, PartialEq, Eq)]
+#[derive(Clone, Copy)]
 pub enum LoadKind {
     /// In whatever state it is.
     Ld,
@@ -92,7 +92,7 @@ pub enum LoadKind {
 }
 
 /// How a cell is written; it is left full.
-#[derive(Clone, Copy, Debug, PartialEq, Eq)]
+#[derive(Clone, Copy)]
 pub enum StoreKind {
     /// In whatever state it is.
     St,
@@ -103,14 +103,14 @@ pub enum StoreKind {
 }
 
 /// Which word makes a branch.
-#[derive(Clone, Copy, Debug, PartialEq, Eq)]
+#[derive(Clone, Copy)]
 pub enum Test {
     Zero,
     NotZero,
 }
 
 /// An instruction. Where it names a pointer and a number, it is about the cell at the pointer with the number added to its offset.
-#[derive(Clone, Copy, Debug, PartialEq, Eq)]
+#[derive(Clone, Copy)]
 pub enum Instr {
     /// `li`: the register gets the word.
     Li(Reg, u64),
@@ -159,7 +159,7 @@ pub enum Instr {
 }
 
 /// Why a step traps.
-#[derive(Clone, Copy, Debug, PartialEq, Eq)]
+#[derive(Clone, Copy)]
 pub enum TrapKind {
     /// A divisor is 0.
     Divide,

@@ -9,6 +9,3 @@ mod instr;
 pub use code::{Code, Home, LoopMark, Run};
 pub use emit::Emit;
 pub use instr::{BinaryOp, DivideOp, Instr, LoadKind, Reg, StoreKind, Test, TrapKind};
-
-#[cfg(test)]
-mod tests;

@@ -7,7 +7,8 @@ use Rattle.xc_isa.specs.declared.instr.Instr.{Instr}
 use Rattle.xc_isa.specs.Texts.{HasText}
 use Rattle.xc_isa.specs.Machine.{Empty, State, start, HasQuit}
 use Rattle.xc_isa.specs.Runs.{Ran, At, Trap, NoRun, run}
-use Rattle.xc_isa_streams.specs.TwoStreams.{one_global, two_streams_code, EndsWithSeven}
+use Rattle.xc_isa_streams.specs.TwoStreams.{two_streams_code, EndsWithSeven}
+use Rattle.xc_isa_streams.specs.InnerTwoStreams.{one_global}
 
 abbrev code_of : (gs : List (List Run)) (fs : List (List ℕ)) (ls : List LoopMark) (is : List Instr) → HasText gs fs ls is → Code
 code_of gs fs ls is t = record { globals = gs; formats = fs; loops = ls; instrs = is; has_text = t }

@@ -3,3 +3,4 @@ pub mod Parts
 pub mod Local
 pub mod Promises
 pub mod TwoStreams
+pub mod InnerTwoStreams

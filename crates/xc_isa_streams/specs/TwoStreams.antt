@@ -1,9 +1,7 @@
 -- A small code that starts a second stream; each has a frame of one cell, and both write the global.
 use Rattle.std.specs.Prelude.{◌≡◌, ℕ, ◌==◌, ◌^◌, List, [], ◌∷◌, if◌then◌else◌}
-use Rattle.xc_word.specs.Cells.{fresh}
 use Rattle.xc_word.specs.Table.{full_with}
 use Rattle.xc_isa.specs.declared.code.Code.{Code}
-use Rattle.xc_isa.specs.declared.code.Run.{Run}
 use Rattle.xc_isa.specs.Machine.{State, start, HasQuit}
 use Rattle.xc_isa.specs.Runs.{At, run}
 use Rattle.xc_isa.specs.declared.instr.LoadKind.TheVariants.{Ld}
@@ -15,9 +13,6 @@ use Rattle.xc_isa_streams.specs.Class.{Class, Source, Private}
 -- r23 points to the stream's frame
 abbrev pub by_frame : ℕ → Class
 by_frame a = if a == 23 then Private else Source
-
-abbrev pub one_global : List (List Run)
-one_global = (record { count = 1; cell = fresh } ∷ []) ∷ []
 
 -- the second stream begins at position 2, with 7 in r1
 abbrev pub two_streams_code : List Instr

@@ -7,6 +7,3 @@ mod witness;
 
 pub use theorem::{Streams, never_bad_is_own, runs_stand, sources_apply};
 pub use witness::two_streams;
-
-#[cfg(test)]
-mod tests;

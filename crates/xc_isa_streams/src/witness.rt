@@ -1,11 +1,13 @@
 //! A small code that meets what the theorem asks.
 
-ghost use Rattle.std.specs.Prelude.{◌≡◌, IfOk};
+ghost use Rattle.std.specs.Prelude.{◌≡◌, [], IfOk, OnOk};
 ghost use Rattle.xc_isa_streams.specs.Promises.{RunsStand};
-ghost use Rattle.xc_isa_streams.specs.TwoStreams.{by_frame, one_global, two_streams_code, EndsWithSeven};
+ghost use Rattle.xc_isa_streams.specs.TwoStreams.{by_frame, two_streams_code, EndsWithSeven};
+ghost use Rattle.xc_isa_streams.specs.InnerTwoStreams.{one_global};
 
 use sqlite_items::Items;
 use std::alloc::{AllocError, Global};
+use xc_hold::kept;
 use xc_isa::{Code, Emit, Instr, LoadKind, Reg, Run, StoreKind};
 use xc_word::Cell;
 
@@ -24,10 +26,10 @@ fn global(alloc: Global) -> Result<Items<Items<Run>>, AllocError>
 }
 
 /// The first stream starts another one, and both go on in the same way: through a frame of their own to the global.
-fn instructions(alloc: Global) -> Result<Items<Instr>, AllocError>
-    ensures { IfOk result (λ instrs. instrs ≡ two_streams_code) }
+fn emit_instructions(code: &mut Emit) -> Result<(), AllocError>
+    requires { code.old ≡ [] }
+    ensures { OnOk result (code.new ≡ two_streams_code) }
 {
-    let mut code = Emit::new(alloc);
     let argument = Reg::new(1);
     let word = Reg::new(2);
     let frame = Reg::new(23);
@@ -43,6 +45,15 @@ fn instructions(alloc: Global) -> Result<Items<Instr>, AllocError>
     code.push(Instr::Li(word, 1 << 32))?;
     code.push(Instr::Store(StoreKind::St, value, word, 0))?;
     code.push(Instr::Quit)?;
+    Ok(())
+}
+
+fn instructions(alloc: Global) -> Result<Items<Instr>, AllocError>
+    ensures { IfOk result (λ instrs. instrs ≡ two_streams_code) }
+{
+    let mut code = Emit::new(alloc);
+    let done = emit_instructions(&mut code);
+    let ((), code) = kept(done, code)?;
     Ok(code.finish())
 }
 

@@ -7,7 +7,7 @@ use Rattle.std.proofs.lemmas.List.{append-nil}
 use Rattle.std.proofs.lemmas.List.Sums.{sum_by-cons}
 use Rattle.xc_text_format.specs.Pieces.{pieces_of}
 use Rattle.xc_text_lines.specs.Lines.{at_option}
-use Rattle.xc_text_lines.specs.Grammar.{runs as runs_lines}
+use Rattle.xc_text_lines.specs.InnerGrammar.{runs as runs_lines}
 use Rattle.xc_text_lines.proofs.Laws.{runs_append}
 use Rattle.xc_isa.specs.declared.code.Run.{Run}
 use Rattle.xc_isa.specs.declared.code.LoopMark.{LoopMark}
@@ -16,7 +16,8 @@ use Rattle.xc_isa.specs.Texts.{size_of}
 use Rattle.xc_isa_text.specs.declared.draft.Stage.TheVariants as stage
 use Rattle.xc_isa_text.specs.Instructions.{instr_line, IsInstr}
 use Rattle.xc_isa_text.specs.Texts.{global_line, run_line, global_lines, format_line, mark_line, code_line, IsRun, IsMark}
-use Rattle.xc_isa_text.specs.Readings.{Reading, at_start, last_of, may_follow, differ, in_order, with_runs, next_at, next, whole}
+use Rattle.xc_isa_text.specs.Readings.{Reading}
+use Rattle.xc_isa_text.specs.InnerReadings.{at_start, last_of, may_follow, differ, in_order, with_runs, next_at, next, whole}
 use Rattle.xc_isa_text.proofs.Chains.{last_push, Chain}
 use Rattle.xc_isa_text.proofs.InstrLaws.{line_again}
 use Rattle.xc_isa_text.proofs.DataLines.{global_again, run_again, format_again, mark_again, code_again}

@@ -4,7 +4,7 @@ use Rattle.std.proofs.lemmas.Option.{same_Some}
 use Rattle.std.specs.Prelude.{slice_get}
 use Rattle.std.specs.List.{AllByRecursion, flat_map}
 use Rattle.xc_isa.specs.Texts.{EachWithNext}
-use Rattle.xc_isa_text.specs.Readings.{last_of, may_follow}
+use Rattle.xc_isa_text.specs.InnerReadings.{last_of, may_follow}
 
 last_get : {X : Type 0} (x : X) (xs : List X) → last_of (Some x) xs ≡ slice_get (x ∷ xs) (length xs)
 last_get x [] = refl

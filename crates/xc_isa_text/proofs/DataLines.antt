@@ -6,7 +6,7 @@ use Rattle.std.proofs.lemmas.Option.{same_Some}
 use Rattle.std.proofs.lemmas.Slice.Eq.{bytes_eq-Decides}
 use Rattle.hex.specs.Hex.{IsBytes}
 use Rattle.xc_text_lines.specs.Lines.{words_of}
-use Rattle.xc_text_lines.specs.Grammar.{HasNoFeed}
+use Rattle.xc_text_lines.specs.InnerGrammar.{HasNoFeed}
 use Rattle.xc_text_lines.specs.HexWords.{hex_word}
 use Rattle.xc_text_lines.proofs.HexLemmas.{hex_word_word, bytes_spell, bytes_again}
 use Rattle.xc_text_lines.proofs.Joins.{IsWord, words-join, join-words, no_feed-join}
@@ -14,9 +14,11 @@ use Rattle.xc_isa.specs.declared.code.Run.{Run}
 use Rattle.xc_isa.specs.declared.code.LoopMark.{LoopMark}
 use Rattle.xc_isa_text.specs.declared.keyword.Keyword.{Keyword}
 use Rattle.xc_isa_text.specs.declared.keyword.Keyword.TheVariants as keyword
-use Rattle.xc_isa_text.specs.Operands.{Number, Value, State, words_in, AreBelow, numbers_in, none_left}
+use Rattle.xc_isa_text.specs.Operands.{Number, Value, State, words_in, AreBelow}
+use Rattle.xc_isa_text.specs.InnerOperands.{numbers_in, none_left}
 use Rattle.xc_isa_text.specs.Texts.{global_line, state_number, run_numbers, run_line, format_line, mark_numbers, mark_line, code_line, IsRun, IsMark}
-use Rattle.xc_isa_text.specs.Readings.{Reading, keyword_name, all_keywords, keyword_named, is_full, run_of, bytes_in, with_data, data_next, with_global, with_this_run, with_run, with_format, with_this_mark, with_mark, with_code}
+use Rattle.xc_isa_text.specs.Readings.{Reading}
+use Rattle.xc_isa_text.specs.InnerReadings.{keyword_name, all_keywords, keyword_named, is_full, run_of, bytes_in, with_data, data_next, with_global, with_this_run, with_run, with_format, with_this_mark, with_mark, with_code}
 use Rattle.xc_isa_text.proofs.OperandLaws.{bind_some, numbers_spelled, numbers_again, are_words}
 use Rattle.xc_isa_text.proofs.InstrLaws.{found}
 

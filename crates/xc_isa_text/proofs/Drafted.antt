@@ -9,7 +9,8 @@ use Rattle.xc_isa_text.specs.declared.draft.Stage.{Stage}
 use Rattle.xc_isa_text.specs.declared.draft.Stage.TheVariants as stage
 use Rattle.xc_isa_text.specs.Instructions.{instr_line, IsInstr}
 use Rattle.xc_isa_text.specs.Texts.{header, global_line, run_line, global_lines, format_line, mark_line, code_line, IsRun, IsMark}
-use Rattle.xc_isa_text.specs.Readings.{Reading, at_start, differ, in_order}
+use Rattle.xc_isa_text.specs.Readings.{Reading}
+use Rattle.xc_isa_text.specs.InnerReadings.{at_start, differ, in_order}
 use Rattle.xc_isa_text.proofs.Chains.{Chain}
 
 -- the lines of a global that lacks cells

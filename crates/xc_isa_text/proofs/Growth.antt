@@ -21,10 +21,13 @@ use Rattle.xc_isa_text.specs.declared.keyword.Keyword.{Keyword}
 use Rattle.xc_isa_text.specs.declared.keyword.Keyword.TheVariants as keyword
 use Rattle.xc_isa_text.specs.declared.draft.Stage.{Stage}
 use Rattle.xc_isa_text.specs.declared.draft.Stage.TheVariants as stage
-use Rattle.xc_isa_text.specs.Operands.{Number, Value, State, numbers_in, none_left}
-use Rattle.xc_isa_text.specs.Instructions.{instr_line, instr_in, IsInstr}
+use Rattle.xc_isa_text.specs.Operands.{Number, Value, State}
+use Rattle.xc_isa_text.specs.InnerOperands.{numbers_in, none_left}
+use Rattle.xc_isa_text.specs.Instructions.{instr_line, IsInstr}
+use Rattle.xc_isa_text.specs.InnerInstructions.{instr_in}
 use Rattle.xc_isa_text.specs.Texts.{header, global_line, run_line, global_lines, format_line, mark_line, code_line, IsRun, IsMark}
-use Rattle.xc_isa_text.specs.Readings.{Reading, at_start, last_of, may_follow, differ, in_order, keyword_name, with_global, with_runs, with_run, bytes_in, with_format, with_mark, with_code, with_data, with_instr, next_at, next}
+use Rattle.xc_isa_text.specs.Readings.{Reading}
+use Rattle.xc_isa_text.specs.InnerReadings.{at_start, last_of, may_follow, differ, in_order, keyword_name, with_global, with_runs, with_run, bytes_in, with_format, with_mark, with_code, with_data, with_instr, next_at, next}
 use Rattle.xc_isa_text.proofs.Chains.{Chain, chain_push, all_push}
 use Rattle.xc_isa_text.proofs.OperandLaws.{bind_some}
 use Rattle.xc_isa_text.proofs.InstrLaws.{line_spelled}

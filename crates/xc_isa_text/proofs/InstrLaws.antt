@@ -6,7 +6,7 @@ use Rattle.std.specs.Str.{bytes_eq}
 use Rattle.std.proofs.lemmas.Option.{same_Some}
 use Rattle.std.proofs.lemmas.Slice.Eq.{bytes_eq-Decides}
 use Rattle.xc_text_lines.specs.Lines.{words_of}
-use Rattle.xc_text_lines.specs.Grammar.{HasNoFeed}
+use Rattle.xc_text_lines.specs.InnerGrammar.{HasNoFeed}
 use Rattle.xc_text_lines.proofs.Joins.{IsWord, words-join, join-words, no_feed-join}
 use Rattle.xc_isa.specs.declared.instr.BinaryOp.TheVariants.{Add, Sub, Mul, And, Or, Xor, Shl, Shr, Sar, Slt, Sltu, Seq}
 use Rattle.xc_isa.specs.declared.instr.DivideOp.TheVariants.{Div, Divu, Rem, Remu}
@@ -17,8 +17,10 @@ use Rattle.xc_isa.specs.declared.instr.Instr.{Instr}
 use Rattle.xc_isa.specs.declared.instr.Instr.TheVariants as instr
 use Rattle.xc_isa_text.specs.declared.op.Op.{Op}
 use Rattle.xc_isa_text.specs.declared.op.Op.TheVariants as op
-use Rattle.xc_isa_text.specs.Operands.{words_in, AreBelow, numbers_in}
-use Rattle.xc_isa_text.specs.Instructions.{name_of, slots_of, op_of, numbers_of, instr_words, instr_line, IsInstr, all_ops, op_named, made_of, instr_from, instr_in}
+use Rattle.xc_isa_text.specs.Operands.{words_in, AreBelow}
+use Rattle.xc_isa_text.specs.InnerOperands.{numbers_in}
+use Rattle.xc_isa_text.specs.Instructions.{name_of, slots_of, op_of, numbers_of, instr_words, instr_line, IsInstr}
+use Rattle.xc_isa_text.specs.InnerInstructions.{all_ops, op_named, made_of, instr_from, instr_in}
 use Rattle.xc_isa_text.proofs.OperandLaws.{bind_some, numbers_spelled, numbers_again, are_words}
 
 -- ---- mnemonics

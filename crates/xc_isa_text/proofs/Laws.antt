@@ -11,8 +11,9 @@ use mathlib.Core.Bool.{beq}
 use Rattle.xc_text_lines.specs.declared.lines.ReadFault.{ReadFault}
 use Rattle.xc_text_lines.specs.declared.lines.ReadFault.TheVariants as reading
 use Rattle.xc_text_lines.specs.Lines.{is_feed, pieces, read_pieces, Reads, HasFewLines}
-use Rattle.xc_text_lines.specs.Grammar.{with_feeds, HasNoFeed, IsFormat, InFormat, IsFirstBad}
-use Rattle.xc_text_lines.specs.Grammar.{Spells as LinesSpell}
+use Rattle.xc_text_lines.specs.Grammar.{with_feeds, IsFirstBad}
+use Rattle.xc_text_lines.specs.InnerGrammar.{HasNoFeed, IsFormat, InFormat}
+use Rattle.xc_text_lines.specs.InnerGrammar.{Spells as LinesSpell}
 use Rattle.xc_text_lines.proofs.Laws.{is_found, is_only, is_first_bad, first_bad_same, count-with_feeds}
 use Rattle.xc_word.specs.declared.memory.Cell.{Cell}
 use Rattle.xc_isa.specs.declared.code.Run.{Run}
@@ -24,7 +25,8 @@ use Rattle.xc_isa_text.specs.declared.draft.Stage.TheVariants as stage
 use Rattle.xc_isa_text.specs.declared.text.AsmFault.TheVariants.{Line, NoMemory}
 use Rattle.xc_isa_text.specs.Instructions.{instr_line, IsInstr}
 use Rattle.xc_isa_text.specs.Texts.{Contents, header, run_line, global_lines, format_line, mark_line, code_line, lines_of, state_number, IsRun, IsMark, IsCode, Spells, IsAssembly}
-use Rattle.xc_isa_text.specs.Readings.{Reading, at_start, contents_in, last_of, may_follow, differ, in_order, with_runs, next, whole_at, whole}
+use Rattle.xc_isa_text.specs.Readings.{Reading}
+use Rattle.xc_isa_text.specs.InnerReadings.{at_start, contents_in, last_of, may_follow, differ, in_order, with_runs, next, whole_at, whole}
 use Rattle.xc_isa_text.specs.Faults.{fault_of}
 use Rattle.xc_isa_text.proofs.Chains.{Chain, chain_from, each_from, all_append, all_map, all_flat, all_same}
 use Rattle.xc_isa_text.proofs.InstrLaws.{line_free}

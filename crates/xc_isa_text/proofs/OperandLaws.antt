@@ -15,7 +15,8 @@ use Rattle.xc_text_lines.specs.Numbers.{number_of, signed_of}
 use Rattle.xc_text_lines.proofs.Numerals.{number_spells, number_decimal}
 use Rattle.xc_text_lines.proofs.Signs.{signed_spells, signed_again, signed_word}
 use Rattle.xc_text_lines.proofs.Joins.{IsWord, decimal_word}
-use Rattle.xc_isa_text.specs.Operands.{Slot, Register, Number, Value, Signed, State, limit_of, state_word, word_in, words_in, AreBelow, number_in, first_in, none_left, numbers_in}
+use Rattle.xc_isa_text.specs.Operands.{Slot, Register, Number, Value, Signed, State, limit_of, state_word, word_in, words_in, AreBelow}
+use Rattle.xc_isa_text.specs.InnerOperands.{number_in, first_in, none_left, numbers_in}
 
 pub bind_some : {A B : Type 0} (o : Option A) (f : A → Option B) (y : B) → option_and_then f o ≡ Some y → (x : A) × (o ≡ Some x) × (f x ≡ Some y)
 bind_some None f y e = absurd cc

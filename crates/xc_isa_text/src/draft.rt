@@ -3,9 +3,10 @@
 ghost use Rattle.std.specs.Prelude.{◌≡◌, ◌∷◌, [], MatchResult, Some, None};
 ghost use Rattle.std.specs.Option.{option_and_then};
 ghost use Rattle.xc_text_lines.specs.Lines.{words_of};
-ghost use Rattle.xc_isa_text.specs.Operands.{Number, Value, State, numbers_in, none_left};
-ghost use Rattle.xc_isa_text.specs.Readings.{at_start, with_global, with_run, bytes_in, with_format, with_mark, with_code, data_next, with_instr, with_runs, contents_in, next, whole};
-ghost use Rattle.xc_isa_text.specs.Instructions.{instr_in};
+ghost use Rattle.xc_isa_text.specs.Operands.{Number, Value, State};
+ghost use Rattle.xc_isa_text.specs.InnerOperands.{numbers_in, none_left};
+ghost use Rattle.xc_isa_text.specs.InnerReadings.{at_start, with_global, with_run, bytes_in, with_format, with_mark, with_code, data_next, with_instr, with_runs, contents_in, next, whole};
+ghost use Rattle.xc_isa_text.specs.InnerInstructions.{instr_in};
 ghost use Rattle.xc_isa_text.specs.Texts.{contents_of};
 ghost use Rattle.xc_isa.specs.Texts.{HasText};
 
@@ -24,7 +25,7 @@ use xc_text_lines::{LineReader, Refused, hex_bytes};
 use xc_word::Cell;
 
 /// Which part of the text comes next.
-#[derive(Clone, Copy, Debug, PartialEq, Eq)]
+#[derive(Clone, Copy, PartialEq, Eq)]
 pub(crate) enum Stage {
     Start,
     Data,

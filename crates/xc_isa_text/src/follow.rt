@@ -1,7 +1,7 @@
 //! Which runs and marks may follow the last one.
 
 ghost use Rattle.std.specs.Prelude.{◌≡◌, None};
-ghost use Rattle.xc_isa_text.specs.Readings.{last_of, may_follow, differ as runs_differ, in_order};
+ghost use Rattle.xc_isa_text.specs.InnerReadings.{last_of, may_follow, differ as runs_differ, in_order};
 
 use xc_isa::{LoopMark, Run};
 

@@ -1,8 +1,10 @@
 //! Instructions as lines.
 
 ghost use Rattle.std.specs.Prelude.{◌≡◌, ◌++◌, ◌∷◌, [], OnOk};
-ghost use Rattle.xc_isa_text.specs.Operands.{words_in, tail_of};
-ghost use Rattle.xc_isa_text.specs.Instructions.{op_of, slots_of, numbers_of, instr_line, IsInstr, instr_from, instr_in};
+ghost use Rattle.xc_isa_text.specs.Operands.{words_in};
+ghost use Rattle.xc_isa_text.specs.InnerOperands.{tail_of};
+ghost use Rattle.xc_isa_text.specs.Instructions.{op_of, slots_of, numbers_of, instr_line, IsInstr};
+ghost use Rattle.xc_isa_text.specs.InnerInstructions.{instr_from, instr_in};
 ghost use Rattle.xc_text_lines.specs.Lines.{words_of};
 
 use crate::op::Op;

@@ -1,10 +1,10 @@
 //! The words that begin the lines before the instructions.
 
 ghost use Rattle.std.specs.Prelude.{◌≡◌};
-ghost use Rattle.xc_isa_text.specs.Readings.{keyword_name, keyword_named};
+ghost use Rattle.xc_isa_text.specs.InnerReadings.{keyword_name, keyword_named};
 
 /// What a line of data says.
-#[derive(Clone, Copy, Debug, PartialEq, Eq)]
+#[derive(Clone, Copy)]
 pub(crate) enum Keyword {
     /// A global begins.
     Global,

@@ -11,6 +11,3 @@ mod text;
 mod words;
 
 pub use text::{AsmFault, print, read};
-
-#[cfg(test)]
-mod tests;

@@ -1,12 +1,13 @@
 //! Mnemonics.
 
 ghost use Rattle.std.specs.Prelude.{◌≡◌};
-ghost use Rattle.xc_isa_text.specs.Instructions.{binary_name, divide_name, load_name, store_name, branch_name, name_of, op_named};
+ghost use Rattle.xc_isa_text.specs.Instructions.{binary_name, divide_name, load_name, store_name, branch_name, name_of};
+ghost use Rattle.xc_isa_text.specs.InnerInstructions.{op_named};
 
 use xc_isa::{BinaryOp, DivideOp, LoadKind, StoreKind, Test};
 
 /// What an instruction does, without its registers and numbers.
-#[derive(Clone, Copy, Debug, PartialEq, Eq)]
+#[derive(Clone, Copy)]
 pub(crate) enum Op {
     Li,
     Addi,

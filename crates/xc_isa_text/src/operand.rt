@@ -2,7 +2,8 @@
 
 ghost use Rattle.std.specs.Prelude.{◌≡◌, ◌++◌, ◌<◌, OnOk, ℕ, if◌then◌else◌};
 ghost use Rattle.std.specs.Option.{option_map};
-ghost use Rattle.xc_isa_text.specs.Operands.{Slot, limit_of, word_in, number_in};
+ghost use Rattle.xc_isa_text.specs.Operands.{Slot, limit_of, word_in};
+ghost use Rattle.xc_isa_text.specs.InnerOperands.{number_in};
 
 use std::alloc::AllocError;
 use xc_isa::Reg;
@@ -77,7 +78,7 @@ impl Operand for u64 {
 }
 
 /// A word that is written as a signed number.
-#[derive(Clone, Copy, Debug, PartialEq, Eq)]
+#[derive(Clone, Copy)]
 pub(crate) struct Signed(pub(crate) u64);
 
 impl Operand for Signed {
@@ -98,7 +99,7 @@ impl Operand for Signed {
 }
 
 /// Whether a cell is full.
-#[derive(Clone, Copy, Debug, PartialEq, Eq)]
+#[derive(Clone, Copy)]
 pub(crate) struct Full(pub(crate) bool);
 
 impl Operand for Full {

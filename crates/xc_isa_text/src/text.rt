@@ -8,7 +8,7 @@ ghost use Rattle.xc_text_lines.specs.Grammar.{IsFirstBad, with_feeds};
 ghost use Rattle.xc_isa.specs.Texts.{HasText, size_of};
 ghost use Rattle.xc_isa_text.specs.Faults.{fault_of};
 ghost use Rattle.xc_isa_text.specs.Instructions.{instr_line, IsInstr};
-ghost use Rattle.xc_isa_text.specs.Readings.{contents_in};
+ghost use Rattle.xc_isa_text.specs.InnerReadings.{contents_in};
 ghost use Rattle.xc_isa_text.specs.Texts.{Contents, contents_of, global_lines, run_line, format_line, mark_line, IsRun, IsMark, Spells, IsAssembly};
 
 use crate::draft::Draft;
@@ -21,7 +21,7 @@ use xc_isa::{Code, Instr, LoopMark, Run};
 use xc_text_lines::{ReadFault, end_line, push_hex, read_lines};
 
 /// Why a text was not read.
-#[derive(Clone, Copy, Debug, PartialEq, Eq)]
+#[derive(Clone, Copy)]
 pub enum AsmFault {
     /// The first bad line, counted from 1.
     Line(u32),

@@ -3,7 +3,8 @@
 ghost use Rattle.std.specs.Prelude.{◌≡◌, ◌∷◌, ◌++◌, [], Some, None, MatchOption, OnOk, ◌<◌};
 ghost use Rattle.std.specs.Option.{option_map};
 ghost use Rattle.xc_text_lines.specs.Lines.{words_of};
-ghost use Rattle.xc_isa_text.specs.Operands.{first_in, numbers_in, words_in, AreBelow, tail_of, word_in, limit_of};
+ghost use Rattle.xc_isa_text.specs.Operands.{words_in, AreBelow, word_in, limit_of};
+ghost use Rattle.xc_isa_text.specs.InnerOperands.{first_in, numbers_in, tail_of};
 
 use crate::operand::Operand;
 use std::alloc::AllocError;

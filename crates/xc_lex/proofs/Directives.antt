@@ -13,7 +13,8 @@ use Rattle.xc_lex.specs.Front.{front_of}
 use Rattle.xc_lex.specs.Macros.{Macros, bytes_of}
 use Rattle.xc_lex.specs.Lines.{Line, good, bad, words_at, body_at, past_blanks, define_by, define_at, directive_by, directive_at, directive_of, named}
 use Rattle.xc_lex.specs.State.{entry_of, all_of, index_of, unmade}
-use Rattle.xc_lex.specs.Steps.{IsIdle, BodyEnds, BodyStops, DirectiveRead, DirectiveStops}
+use Rattle.xc_lex.specs.Steps.{IsIdle}
+use Rattle.xc_lex.specs.InnerSteps.{BodyEnds, BodyStops, DirectiveRead, DirectiveStops}
 use Rattle.xc_lex.proofs.Defining.{is_defined-new, is_defined-known, index_of-le, IsIdle-push, MadeFits-push}
 
 -- a name stands behind `define`

@@ -10,7 +10,8 @@ use Rattle.xc_lex.specs.declared.token.Token.{Token}
 use Rattle.xc_lex.specs.declared.token.TokenKind.TheVariants.{Name}
 use Rattle.xc_lex.specs.declared.macros.Macro.{Macro}
 use Rattle.xc_lex.specs.Macros.{Macros, bytes_of, body_of, without, replacement, replacement_by, replaced}
-use Rattle.xc_lex.specs.State.{visible, index_of, Names, NamesNone, tokens_of, is_set, is_in, AreOf, AreOrdered, moved, now_replaced, cost, now_cost}
+use Rattle.xc_lex.specs.State.{visible, index_of, Names, NamesNone, tokens_of, is_set, is_in, AreOf, AreOrdered, moved, now_replaced}
+use Rattle.xc_lex.specs.InnerState.{cost, now_cost}
 use Rattle.xc_lex.proofs.Lookups.{body_of-closed, visible-open, length-visible-open, is_set-set, is_set-set_other}
 
 pub replaced-kept : (source : List ℕ) (at : Span) (n : ℕ) (ms : Macros) (t : Token) → replacement source ms t ≡ None → replaced source at n ms t ≡ moved at t ∷ []

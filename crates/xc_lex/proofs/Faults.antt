@@ -17,7 +17,8 @@ use Rattle.xc_lex.specs.Macros.{Macros, bytes_of, without, replacement, replaced
 use Rattle.xc_lex.specs.Lines.{Line, good, bad, words_at, line_by, line_at, hash_line, directive_at, pragma_at, token_of}
 use Rattle.xc_lex.specs.Source.{fault_of}
 use Rattle.xc_lex.specs.State.{all_of, MadeFits}
-use Rattle.xc_lex.specs.Steps.{IsIdle, is_nil, AllWords, WordsStop, LineRead, LineStops, DirectiveRead, DirectiveStops, PragmaRead}
+use Rattle.xc_lex.specs.Steps.{IsIdle, LineRead, LineStops}
+use Rattle.xc_lex.specs.InnerSteps.{is_nil, AllWords, WordsStop, DirectiveRead, DirectiveStops, PragmaRead}
 use Rattle.xc_lex.proofs.Made.{MadeFits-append}
 use Rattle.xc_lex.specs.declared.token.TokenKind.TheVariants.{Pragma}
 

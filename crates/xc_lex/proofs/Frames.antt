@@ -10,7 +10,8 @@ use Rattle.xc_lex.specs.declared.macros.Macro.{Macro}
 use Rattle.xc_lex.specs.declared.macros.Frame.{Frame}
 use Rattle.xc_lex.specs.declared.macros.Made.{Made}
 use Rattle.xc_lex.specs.Macros.{replacement}
-use Rattle.xc_lex.specs.State.{tokens_of, is_set, Names, moved, MadeFits, IsKept, IsMadeBy, AreSpans, now_replaced, now_cost, pending, frames_cost, visible, unwound, is_fixed, Entered}
+use Rattle.xc_lex.specs.State.{tokens_of, is_set, Names, moved, MadeFits, IsKept, now_replaced, visible, is_fixed}
+use Rattle.xc_lex.specs.InnerState.{IsMadeBy, AreSpans, now_cost, pending, frames_cost, unwound, Entered}
 use Rattle.xc_lex.proofs.Lookups.{set_back, is_set-set}
 use Rattle.xc_lex.proofs.Expansion.{replaced-kept, two-le-cost, now_replaced_once, now_cost_once}
 use Rattle.xc_lex.proofs.Made.{MadeFits-open, MadeFits-append}

@@ -10,7 +10,8 @@ use Rattle.xc_lex.specs.declared.token.Token.{Token}
 use Rattle.xc_lex.specs.declared.macros.Macro.{Macro}
 use Rattle.xc_lex.specs.declared.macros.Frame.{Frame}
 use Rattle.xc_lex.specs.declared.macros.Made.{Made}
-use Rattle.xc_lex.specs.State.{tokens_of, is_set, is_in, shut, made_of, is_made, is_fixed, Names, IsSettled, AllSettled, AreOf, moved, now_replaced, visible, IsPlaced, MadeFits, IsMadeBy}
+use Rattle.xc_lex.specs.State.{tokens_of, is_set, is_in, shut, made_of, is_made, is_fixed, Names, AreOf, moved, now_replaced, visible, IsPlaced, MadeFits}
+use Rattle.xc_lex.specs.InnerState.{IsSettled, AllSettled, IsMadeBy}
 use Rattle.xc_lex.proofs.Lookups.{is_set-set, set_back}
 use Rattle.xc_lex.proofs.Expansion.{different, closed-closed, closed-opened, replaced-same, body-same, flat_map-moved, replaced-moved, now_replaced_once}
 

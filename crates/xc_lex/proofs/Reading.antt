@@ -14,7 +14,8 @@ use Rattle.xc_lex.specs.Front.{front_of}
 use Rattle.xc_lex.specs.Macros.{replaced, expanded}
 use Rattle.xc_lex.specs.Lines.{Words, token_of, words_by, words_from}
 use Rattle.xc_lex.specs.State.{entry_of, all_of, visible, shut, MadeFits, now_replaced, Replaced, Passes}
-use Rattle.xc_lex.specs.Steps.{IsIdle, is_nil, SoFar, AllWords, TooMany, WordsStop}
+use Rattle.xc_lex.specs.Steps.{IsIdle}
+use Rattle.xc_lex.specs.InnerSteps.{is_nil, SoFar, AllWords, TooMany, WordsStop}
 use Rattle.xc_lex.proofs.Scanning.{words_blank_at, words_whole_at, words_stop}
 
 pub SoFar-start : (source : List ℕ) (ms : List Macro) (start : ℕ) (before : List Token) → SoFar source ms start before start true before

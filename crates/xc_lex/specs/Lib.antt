@@ -6,4 +6,6 @@ pub mod Numbering
 pub mod Numbers
 pub mod Source
 pub mod State
+pub mod InnerState
 pub mod Steps
+pub mod InnerSteps

@@ -11,7 +11,7 @@ use crate::token::TokenKind;
 
 /// What comes first: the end, a line feed, so many bytes of no token, a token of so many bytes, `#`,
 /// or something that is none of these.
-#[derive(Clone, Copy, Debug, PartialEq, Eq)]
+#[derive(Clone, Copy)]
 pub enum Front {
     End,
     LineEnd,

@@ -67,7 +67,7 @@ impl From<Vec<Token>> for Tokens {
 }
 
 /// Why a text has no tokens: want of memory, or its first fault.
-#[derive(Clone, Copy, Debug, PartialEq, Eq)]
+#[derive(Clone, Copy)]
 pub enum LexFault {
     NoMemory,
     At(Pos),

@@ -11,9 +11,7 @@ mod numbers;
 mod stop;
 mod token;
 
+pub use bytes::is_blank;
 pub use lexer::{LexFault, Tokens, lex};
 pub use number::{Number, read_number};
 pub use token::{Token, TokenKind};
-
-#[cfg(test)]
-mod tests;

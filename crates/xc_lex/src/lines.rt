@@ -5,7 +5,8 @@ ghost use Rattle.xc_lex.specs.Front.{front_of, rest_front_of, Moves};
 ghost use Rattle.xc_lex.specs.Lines.{token_of, words_at, words_from, blanks_from, past_rest, line_at, directive_of, directive_at, named, define_at, include_at, pragma_at, bad};
 ghost use Rattle.xc_lex.specs.Numbering.{number_in};
 ghost use Rattle.xc_lex.specs.State.{AreNumbered, MadeFits, all_of};
-ghost use Rattle.xc_lex.specs.Steps.{front_in, IsIdle, SoFar, AllWords, WordsStop, LineRead, LineStops, RestEnds, RestStops, BodyEnds, BodyStops, DirectiveRead, DirectiveStops, PragmaRead, PragmaStops};
+ghost use Rattle.xc_lex.specs.Steps.{IsIdle, LineRead, LineStops};
+ghost use Rattle.xc_lex.specs.InnerSteps.{front_in, SoFar, AllWords, WordsStop, RestEnds, RestStops, BodyEnds, BodyStops, DirectiveRead, DirectiveStops, PragmaRead, PragmaStops};
 
 use crate::front::{Front, front_at, rest_front_at};
 use crate::macros::{LIMIT, Macros};
@@ -15,7 +16,7 @@ use std::alloc::{AllocError, AllocFailed, Global};
 use xc_text_place::Span;
 
 /// What a directive does.
-#[derive(Clone, Copy, Debug, PartialEq, Eq)]
+#[derive(Clone, Copy)]
 pub enum Directive {
     Include,
     Note,
@@ -24,7 +25,7 @@ pub enum Directive {
 }
 
 /// Which bytes of a line mean something: those of tokens, or those of comments alone.
-#[derive(Clone, Copy, Debug, PartialEq, Eq)]
+#[derive(Clone, Copy)]
 pub enum Part {
     Tokens,
     Rest,

@@ -3,7 +3,8 @@
 ghost use Rattle.std.specs.Prelude.{◌≡◌, ◌↔◌, ◌≤◌, ◌<◌, ◌^◌, ◌+◌, ◌++◌, ◌∷◌, [], length, map, ℕ, List, reverse, IfOk, IfErr, OnOk, IsTrue, MatchOption, slice_set, slice_range, false, drop};
 ghost use Rattle.xc_lex.specs.Macros.{bytes_of, replaced};
 ghost use Rattle.xc_lex.specs.Numbering.{number_in};
-ghost use Rattle.xc_lex.specs.State.{all_of, visible, index_of, AreApart, AreNumbered, tokens_of, is_set, is_in, shut, unmade, made_of, is_made, is_fixed, NamesNone, Names, IsSettled, AllSettled, NextOf, Entered, Replaced, MadeFits, IsKept, IsMadeBy, AreSpans, moved, now_replaced, pending, unwound, AreWithin, now_cost, frames_cost, TurnFits, Passes};
+ghost use Rattle.xc_lex.specs.State.{all_of, visible, index_of, AreApart, AreNumbered, tokens_of, is_set, is_in, shut, unmade, made_of, is_made, is_fixed, NamesNone, Names, Replaced, MadeFits, IsKept, moved, now_replaced, Passes};
+ghost use Rattle.xc_lex.specs.InnerState.{IsSettled, AllSettled, NextOf, Entered, IsMadeBy, AreSpans, pending, unwound, AreWithin, now_cost, frames_cost, TurnFits};
 
 use crate::numbers::Numbers;
 use crate::stop::Stop;
@@ -224,7 +225,7 @@ impl Macros {
     }
 
     /// Whether a token is the name of no macro, or of one that stands for the same anywhere.
-    #[tactic(auto, unfolding(crate::specs::State::IsSettled))]
+    #[tactic(auto, unfolding(crate::specs::InnerState::IsSettled))]
     fn is_settled(&self, source: &[u8], word: Token) -> bool
         requires kept { IsKept source.now self.now.entries.items self.now.opened.items self.now.made.items }
         requires numbered { AreNumbered source.now self.now.entries.items (number_in self.now.numbers) }

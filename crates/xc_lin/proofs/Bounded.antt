@@ -6,8 +6,10 @@ use Rattle.xc_lin.specs.declared.affine.Term.{Term}
 use Rattle.std.proofs.lemmas.List.{take_more}
 use Rattle.xc_lin.specs.declared.region.Range.{Range}
 use Rattle.xc_lin.specs.declared.region.Region.{Region}
-use Rattle.xc_lin.specs.Affine.{Form, sum_of, value_of, same_var, has_var, coefficient_of, IsSingle, raised_by, without, merged, met}
-use Rattle.xc_lin.specs.Region.{TakesAt, HasValuesAt, Spans, range_of, tie_of, IsMet, IsPoint, HasPoints, Bounds}
+use Rattle.xc_lin.specs.Affine.{Form, sum_of, value_of, same_var, has_var, coefficient_of, IsSingle, raised_by, without, merged}
+use Rattle.xc_lin.specs.InnerAffine.{met}
+use Rattle.xc_lin.specs.Region.{TakesAt, HasValuesAt, range_of, tie_of, IsMet, IsPoint, HasPoints, Bounds}
+use Rattle.xc_lin.specs.InnerRegion.{Spans}
 use Rattle.xc_lin.proofs.Merged.{same_var-refl, same_var-true, has_var-append, has_var-raised, has_var-filter, has_var-without, single-filter, single-merged, matched, matched-without}
 use Rattle.xc_lin.proofs.Totals.{AllTake, Summed, gap_of, summed-push}
 

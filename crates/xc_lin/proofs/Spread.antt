@@ -8,7 +8,8 @@ use Rattle.xc_lin.proofs.Products.{keeps-order, turns-order}
 use Rattle.xc_lin.specs.declared.region.Range.{Range}
 use Rattle.xc_lin.specs.declared.bounds.Line.{Line}
 use Rattle.xc_lin.specs.declared.region.Tie.TheVariants.{Apart, Shared, Below, Above}
-use Rattle.xc_lin.specs.Region.{Takes, Spans, apart, height, Reaches}
+use Rattle.xc_lin.specs.Region.{Takes}
+use Rattle.xc_lin.specs.InnerRegion.{Spans, apart, height, Reaches}
 
 -- a linear function is least and greatest at the ends of its range
 pub reaches-up : (line : Line) → line.range.lo ≤ℤ line.range.hi → pos 0 ≤ℤ line.coeff → Reaches line (height line line.range.lo) (height line line.range.hi)

@@ -5,7 +5,8 @@ use Rattle.xc_lin.specs.declared.affine.Term.{Term}
 use Rattle.xc_lin.specs.declared.region.Range.{Range}
 use Rattle.xc_lin.specs.declared.region.Region.{Region}
 use Rattle.xc_lin.specs.Affine.{same_var, has_var, coefficient_of}
-use Rattle.xc_lin.specs.Region.{range_of, tie_of, Takes, TakesAt, Spans, apart}
+use Rattle.xc_lin.specs.Region.{range_of, tie_of, Takes, TakesAt}
+use Rattle.xc_lin.specs.InnerRegion.{Spans, apart}
 use Rattle.xc_lin.proofs.Merged.{same_var-refl, differs, matched}
 
 -- the variables of some terms have values that the region allows

@@ -78,7 +78,3 @@ scaled by term = record term { coeff = term.coeff *ℤ by }
 -- a form times a number
 abbrev pub times : Form → ℤ → Form
 times a by = record { terms = nonzero (map (scaled by) a.terms); constant = a.constant *ℤ by }
-
--- the terms of two forms, and a variable where they do not have it
-abbrev pub met : List Term → List Term → Var → List Term
-met a b var = merged a b ++ without (merged a b) (record { var = var; coeff = pos 1 } ∷ [])

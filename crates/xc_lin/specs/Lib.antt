@@ -1,2 +1,4 @@
 pub mod Affine
+pub mod InnerAffine
 pub mod Region
+pub mod InnerRegion

@@ -1,6 +1,7 @@
 //! Affine forms: a constant plus coefficients times indices and symbols.
 ghost use Rattle.std.specs.Prelude.{◌≡◌, ◌+ℤ◌, ◌*ℤ◌, ◌^◌, ◌<◌, ◌≤◌, ℤ, ◌-ℤ◌, pos, negsuc, neg_ℤ, [], ◌∷◌, ◌++◌, IsTrue, IfOk, OnOk, IsOk, ◌↔◌, unsigned_abs, length, map, All};
-ghost use Rattle.xc_lin.specs.Affine.{has_var, coefficient_of, same_var, IsSingle, IsCoefficient, AreNarrow, IsNarrow, merged, met, nonzero, plus, scaled, times, value_of};
+ghost use Rattle.xc_lin.specs.Affine.{has_var, coefficient_of, same_var, IsSingle, IsCoefficient, AreNarrow, IsNarrow, merged, nonzero, plus, scaled, times, value_of};
+ghost use Rattle.xc_lin.specs.InnerAffine.{met};
 
 use crate::LoopId;
 use smallvec::SmallVec;
@@ -9,7 +10,7 @@ use std::marker::Model;
 use thiserror::Error;
 
 /// What a subscript depends on.
-#[derive(Clone, Copy, Debug, PartialEq, Eq)]
+#[derive(Clone, Copy, PartialEq, Eq)]
 pub enum Var {
     /// The index of a loop.
     Index(LoopId),
@@ -20,7 +21,7 @@ pub enum Var {
 }
 
 /// A variable times a coefficient.
-#[derive(Clone, Copy, Debug, PartialEq, Eq)]
+#[derive(Clone, Copy)]
 pub struct Term {
     pub var: Var,
     pub coeff: i64,

@@ -2,7 +2,8 @@
 ghost use Rattle.std.specs.Prelude.{◌≡◌, ◌≤◌, ◌+◌, ◌*◌, ◌^◌, ◌+ℤ◌, ◌-ℤ◌, ◌*ℤ◌, ◌≤ℤ◌, ◌<ℤ◌, ℤ, pos, neg_ℤ, unsigned_abs, Some, IsTrue, ◌↔◌};
 ghost use Rattle.std.specs.Int.{int_min, int_max};
 ghost use Rattle.xc_lin.specs.Affine.{coefficient_of};
-ghost use Rattle.xc_lin.specs.Region.{range_of, tie_of, shorter, height, Reaches, AreSmall, IsSmall, AreWithin, HasValues, HasValuesAt, Spans, HasPoints, Bounds};
+ghost use Rattle.xc_lin.specs.Region.{range_of, tie_of, HasValues, HasValuesAt, HasPoints, Bounds};
+ghost use Rattle.xc_lin.specs.InnerRegion.{shorter, height, Reaches, AreSmall, IsSmall, AreWithin, Spans};
 ghost use Rattle.xc_lin.specs.declared.region.Tie.TheVariants.{Below};
 
 use crate::affine::{Affine, Var};

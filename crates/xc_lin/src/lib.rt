@@ -20,6 +20,3 @@ pub use plan::{
 };
 pub use region::{Range, Region, Tie};
 pub use xc_tree::LoopId;
-
-#[cfg(test)]
-mod tests;

@@ -13,7 +13,7 @@ pub struct Range {
 }
 
 impl Range {
-    ghost use Rattle.xc_lin.specs.Region.{shorter};
+    ghost use Rattle.xc_lin.specs.InnerRegion.{shorter};
 
     /// The range without its last value.
     pub(crate) fn shorter(self) -> Range

@@ -13,7 +13,7 @@ use Rattle.xc_word.proofs.Maps.{assign, get-assign_same, get-assign_other}
 use Rattle.xc_meaning_world.specs.World.{Reach, New, Free, On, Got, Dead, put, left_in, reached, freed, put_back, with_out, serve}
 use Rattle.xc_meaning_world.proofs.Puts.{by_same, put_at, put_other, put_same}
 use Rattle.xc_machine.specs.Shows.{segs_in, world_in}
-use Rattle.xc_machine.specs.Stores.{Serves}
+use Rattle.xc_machine.specs.InnerStores.{Serves}
 
 pub segs_assign : (m : Segments) (s : ℕ) (o : Option (List Cell)) → segs_in (assign m s o) ≡ put (segs_in m) s (unwrap_or o [])
 segs_assign m s o = fun_ext (λ q. by_same (segs_in (assign m s o) q ≡ put (segs_in m) s (unwrap_or o []) q) q s

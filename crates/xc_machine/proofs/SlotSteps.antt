@@ -14,10 +14,13 @@ use Rattle.xc_machine.specs.declared.target.Target.{Target}
 use Rattle.xc_machine.specs.declared.machine.Machine.{Machine}
 use Rattle.xc_machine.specs.declared.stepped.Stepped.{Stepped}
 use Rattle.xc_machine.specs.declared.stepped.Stepped.TheVariants.{NotReady}
-use Rattle.xc_machine.specs.Registers.{regs_of, answered}
-use Rattle.xc_machine.specs.Shows.{slot_of, stream_in, regs_at}
+use Rattle.xc_machine.specs.Registers.{regs_of}
+use Rattle.xc_machine.specs.InnerRegisters.{answered}
+use Rattle.xc_machine.specs.Shows.{slot_of}
+use Rattle.xc_machine.specs.InnerShows.{stream_in, regs_at}
 use Rattle.xc_machine.specs.Targets.{target_of}
-use Rattle.xc_machine.specs.Limits.{Limits, Does, Makes, Steps, cells_in, bytes_in}
+use Rattle.xc_machine.specs.Limits.{Limits, Does, Steps, cells_in, bytes_in}
+use Rattle.xc_machine.specs.InnerLimits.{Makes}
 use Rattle.xc_machine.specs.Machines.{state_of, code_of, limits_of}
 
 -- what an instruction that makes an access does

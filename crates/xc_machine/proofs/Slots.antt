@@ -13,8 +13,10 @@ use Rattle.std.proofs.lemmas.Option.{slice_get_read, slice_get_past}
 use Rattle.xc_isa.specs.Effects.{Regs}
 use Rattle.xc_isa.specs.Machine.{Slot, Empty, Live, State, After, At, free_slot, starts, begun}
 use Rattle.xc_machine.specs.declared.stream.Stream.{Stream}
-use Rattle.xc_machine.specs.Registers.{regs_of, answered}
-use Rattle.xc_machine.specs.Shows.{slot_of, stream_in, regs_at}
+use Rattle.xc_machine.specs.Registers.{regs_of}
+use Rattle.xc_machine.specs.InnerRegisters.{answered}
+use Rattle.xc_machine.specs.Shows.{slot_of}
+use Rattle.xc_machine.specs.InnerShows.{stream_in, regs_at}
 
 -- a slot with a stream is there
 pub within : (xs : List (Option Stream)) (s : ℕ) → IsSome (stream_in xs s) → s < length xs

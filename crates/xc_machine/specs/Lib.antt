@@ -1,8 +1,13 @@
 pub mod Registers
+pub mod InnerRegisters
 pub mod Places
 pub mod Shows
+pub mod InnerShows
 pub mod Stores
+pub mod InnerStores
 pub mod Targets
 pub mod Limits
+pub mod InnerLimits
 pub mod Machines
+pub mod InnerMachines
 pub mod Runs

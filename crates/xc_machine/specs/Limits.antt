@@ -3,7 +3,7 @@ use Rattle.std.specs.Prelude.{◌≡◌, ◌⊎◌, ◌<◌, ◌≤◌, ◌+◌,
 use Rattle.xc_meaning_world.specs.World.{On, New, Print, Request, Touch, Reach, Free, Begin, Stop, Tick}
 use Rattle.xc_isa.specs.declared.code.Code.{Code}
 use Rattle.xc_isa.specs.Effects.{Effect, Goes, Asks, Faults, Quits, effect, read}
-use Rattle.xc_isa.specs.Machine.{Slot, Empty, Live, State, After, At, Trap as TrapsBy, Waits, Spent, takes, step, live_words}
+use Rattle.xc_isa.specs.Machine.{Slot, Empty, Live, State, After, At, Trap as TrapsBy, Waits, Spent, step, live_words}
 use Rattle.xc_machine.specs.declared.stepped.Stepped.{Stepped}
 use Rattle.xc_machine.specs.declared.stepped.Stepped.TheVariants.{Went, NotReady, Trap, WordsFull, OutFull, NoMemory}
 
@@ -68,10 +68,6 @@ Does limits (Trap kind) old new a cells bytes = (a ≡ TrapsBy kind) × (new ≡
 Does limits (WordsFull live asked) old new a cells bytes = ((limits.words < live + asked) ⊎ (a ≡ Spent)) × (live ≡ live_words old) × (asked ≡ cells) × (new ≡ old)
 Does limits (OutFull len piece) old new a cells bytes = (limits.out < len + piece) × (len ≡ length old.world.out) × (piece ≡ length bytes) × (new ≡ old)
 Does limits NoMemory old new a cells bytes = new ≡ old
-
--- an effect on the stream in slot s
-abbrev pub Makes : Limits → Stepped → State → State → ℕ → Effect → Type 0
-Makes limits result old new s e = Does limits result old new (takes e s old.slots old.world old.last) (cells_asked e) (bytes_asked e)
 
 -- One step of the stream in slot s.
 abbrev pub Steps : Code → Limits → ℕ → Stepped → State → State → Type 0

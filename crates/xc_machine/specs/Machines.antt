@@ -1,5 +1,5 @@
 -- What a machine shows.
-use Rattle.std.specs.Prelude.{◌≡◌, ℕ, ◌+◌, ◌-◌, ◌^◌, min, map}
+use Rattle.std.specs.Prelude.{ℕ, ◌+◌, ◌-◌, ◌^◌, min, map}
 use Rattle.xc_isa.specs.declared.code.Code.{Code}
 use Rattle.xc_isa.specs.Machine.{State}
 use Rattle.xc_machine.specs.declared.machine.Machine.{Machine}
@@ -23,10 +23,6 @@ limits_of m = record { words = m.store.words; out = m.store.out }
 -- the steps that were made, up to 2^64 - 1
 abbrev pub steps_of : Machine → ℕ
 steps_of m = m.steps
-
--- the code, the limits and the count of steps stay
-abbrev pub RunsSame : Machine → Machine → Type 0
-RunsSame old new = (code_of new ≡ code_of old) × (limits_of new ≡ limits_of old) × (steps_of new ≡ steps_of old)
 
 -- the steps after one that was tried
 abbrev pub counted : Stepped → ℕ → ℕ

@@ -1,9 +1,8 @@
 -- The fields of a machine as parts of a state of the definition.
-use Rattle.std.specs.Prelude.{ℕ, List, [], Option, Some, None, slice_get, unwrap_or}
+use Rattle.std.specs.Prelude.{ℕ, List, [], Option, Some, None, unwrap_or}
 use Rattle.std.specs.FinMap.{get}
 use Rattle.xc_word.specs.Cells.{Segments}
 use Rattle.xc_meaning_world.specs.World.{Segs, World}
-use Rattle.xc_isa.specs.Effects.{Regs}
 use Rattle.xc_isa.specs.Machine.{Slot, Empty, Live}
 use Rattle.xc_machine.specs.declared.stream.Stream.{Stream}
 use Rattle.xc_machine.specs.Registers.{regs_of}
@@ -18,12 +17,3 @@ world_in m out = record { segs = segs_in m; out = out }
 abbrev pub slot_of : Option Stream → Slot
 slot_of None = Empty
 slot_of (Some s) = Live s.at (regs_of s.regs)
-
--- the stream in a slot, where there is one
-abbrev pub stream_in : List (Option Stream) → ℕ → Option Stream
-stream_in slots s = unwrap_or (slice_get slots s) None
-
--- the registers of a stream, 0 where there is none
-abbrev pub regs_at : Option Stream → Regs
-regs_at None = λ x. 0
-regs_at (Some t) = regs_of t.regs

@@ -4,9 +4,9 @@ ghost use Rattle.std.specs.Prelude.{◌≡◌, ◌<◌, ◌≤◌, ◌+◌, ◌-
 ghost use Rattle.xc_meaning_world.specs.World.{On, Reach, New, Begin, put};
 ghost use Rattle.xc_isa.specs.Effects.{Asks, Goes, Quits, read, load_kind, store_kind, sets, reaches, frees, prints, effect, printed_regs};
 ghost use Rattle.xc_isa.specs.Machine.{Live, Empty, free_slot, begun};
-ghost use Rattle.xc_machine.specs.Registers.{answered};
+ghost use Rattle.xc_machine.specs.InnerRegisters.{answered};
 ghost use Rattle.std.specs.Option.{option_map};
-ghost use Rattle.xc_machine.specs.Shows.{stream_in, regs_at};
+ghost use Rattle.xc_machine.specs.InnerShows.{stream_in, regs_at};
 ghost use Rattle.xc_machine.specs.Targets.{target_of};
 
 use crate::stepped::Stepped;
@@ -31,8 +31,10 @@ pub struct Machine<'a> {
 }
 
 impl Machine<'_> {
-    ghost use Rattle.xc_machine.specs.Machines.{state_of, code_of, limits_of, steps_of, counted, RunsSame};
-    ghost use Rattle.xc_machine.specs.Limits.{Makes, Steps};
+    ghost use Rattle.xc_machine.specs.Machines.{state_of, code_of, limits_of, steps_of, counted};
+    ghost use Rattle.xc_machine.specs.InnerMachines.{RunsSame};
+    ghost use Rattle.xc_machine.specs.Limits.{Steps};
+    ghost use Rattle.xc_machine.specs.InnerLimits.{Makes};
 
     /// The stream in a slot goes on at another position, with a word in a register where one is named.
     fn go(&mut self, s: u32, at: u64, to: Option<Reg>, word: u64)

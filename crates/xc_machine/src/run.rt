@@ -3,7 +3,8 @@
 ghost use Rattle.std.specs.Prelude.{◌≡◌, ◌≤◌, ◌↔◌, IsTrue, is_none};
 ghost use Rattle.std.specs.List.{list_all};
 ghost use Rattle.xc_isa.specs.Machine.{HasQuit};
-ghost use Rattle.xc_machine.specs.Machines.{state_of, code_of, limits_of, steps_of, RunsSame};
+ghost use Rattle.xc_machine.specs.Machines.{state_of, code_of, limits_of, steps_of};
+ghost use Rattle.xc_machine.specs.InnerMachines.{RunsSame};
 ghost use Rattle.xc_machine.specs.Runs.{ready_flags, RunsTo, Rests};
 
 use crate::machine::Machine;
@@ -13,7 +14,7 @@ use xc_isa::TrapKind;
 use xc_sched::Chooser;
 
 /// Why a run ended.
-#[derive(Clone, Copy, Debug, PartialEq, Eq)]
+#[derive(Clone, Copy)]
 pub enum End {
     /// All slots are free.
     Ended,

@@ -16,7 +16,7 @@ use xc_sched::Ready;
 use xc_word::{Cell, Memory};
 
 /// Why there is no machine.
-#[derive(Clone, Copy, Debug, PartialEq, Eq)]
+#[derive(Clone, Copy)]
 pub enum NewFault {
     /// The globals have so many words, more than may be live.
     Words(u64),

@@ -3,7 +3,7 @@
 use xc_isa::TrapKind;
 
 /// What came of a step. Only `Went` changes the machine.
-#[derive(Clone, Copy, Debug, PartialEq, Eq)]
+#[derive(Clone, Copy)]
 pub enum Stepped {
     Went,
     /// The slot has no stream, or its stream waits for a cell.

@@ -35,7 +35,7 @@ pub(crate) struct Store {
 const LAST_SEGMENT: u32 = u32::MAX - 1;
 
 /// What came of a new segment.
-#[derive(Clone, Copy, Debug, PartialEq, Eq)]
+#[derive(Clone, Copy)]
 pub(crate) enum Added {
     /// It has this number.
     At(u32),
@@ -45,7 +45,7 @@ pub(crate) enum Added {
 }
 
 /// What came of a print.
-#[derive(Clone, Copy, Debug, PartialEq, Eq)]
+#[derive(Clone, Copy)]
 pub(crate) enum Printed {
     Done,
     /// So many more bytes would pass the limit.
@@ -54,7 +54,8 @@ pub(crate) enum Printed {
 }
 
 impl Store {
-    ghost use Rattle.xc_machine.specs.Stores.{shown, Serves, SameNumbers, Adds, Frees, Prints};
+    ghost use Rattle.xc_machine.specs.Stores.{shown};
+    ghost use Rattle.xc_machine.specs.InnerStores.{Serves, SameNumbers, Adds, Frees, Prints};
 
     /// Memory with nothing printed.
     pub(crate) fn starting(

@@ -3,13 +3,14 @@
 ghost use Rattle.std.specs.Prelude.{◌≡◌, Some, map};
 ghost use Rattle.xc_isa.specs.Effects.{read, printed_regs};
 ghost use Rattle.xc_isa.specs.Machine.{Live, begun as begun_of};
-ghost use Rattle.xc_machine.specs.Registers.{regs_of, answered};
+ghost use Rattle.xc_machine.specs.Registers.{regs_of};
+ghost use Rattle.xc_machine.specs.InnerRegisters.{answered};
 ghost use Rattle.xc_machine.specs.Shows.{slot_of};
 
 use xc_isa::Reg;
 
 /// The position of the next instruction, and the registers.
-#[derive(Clone, Copy, Debug, PartialEq, Eq)]
+#[derive(Clone, Copy)]
 pub(crate) struct Stream {
     pub(crate) at: u64,
     pub(crate) regs: [u64; 32],

@@ -2,7 +2,7 @@
 
 ghost use Rattle.std.specs.Prelude.{◌≡◌, Some};
 ghost use Rattle.xc_isa.specs.Effects.{load_kind, store_kind};
-ghost use Rattle.xc_machine.specs.Shows.{regs_at};
+ghost use Rattle.xc_machine.specs.InnerShows.{regs_at};
 ghost use Rattle.xc_machine.specs.Targets.{target_of, admits as admits_at};
 
 use crate::stream::Stream;
@@ -10,7 +10,7 @@ use xc_isa::{Instr, LoadKind, Reg, StoreKind};
 use xc_word::{Cell, Kind};
 
 /// What an access is of: the cell at an offset from where a pointer points, and the register that gets the answer.
-#[derive(Clone, Copy, Debug, PartialEq, Eq)]
+#[derive(Clone, Copy)]
 pub(crate) struct Target {
     pub(crate) kind: Kind,
     pub(crate) pointer: u64,

@@ -13,7 +13,7 @@ use xc_sched::{Recorder, RoundRobin, Seeded, print_schedule};
 use xc_top_words::Options;
 
 /// Why a run ended.
-#[derive(Clone, Copy, Debug, PartialEq, Eq)]
+#[derive(Clone, Copy)]
 pub enum Ending {
     /// All streams have ended.
     Ended,

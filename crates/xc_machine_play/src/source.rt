@@ -5,7 +5,7 @@ ghost use Rattle.std.specs.Prelude.{◌≡◌, Bool, false, nat_lt, length};
 use xc_sched::{Chooser, Recorded, RoundRobin, Seeded};
 
 /// What chooses the stream that steps next.
-#[derive(Debug, Drop)]
+#[derive(Drop)]
 pub enum Source {
     /// Round robin.
     Turns,

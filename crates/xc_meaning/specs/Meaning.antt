@@ -5,7 +5,8 @@ use Rattle.xc_word.specs.declared.memory.Kind.{Kind}
 use Rattle.xc_word.specs.declared.memory.Kind.TheVariants.{ReadXx, WriteXf}
 use Rattle.xc_meaning_world.specs.World.{Reach, Request, On, Print as Shows, Stop, Reply, Got, Dead, Action, act_of, tick}
 use Rattle.xc_text_format.specs.Pieces.{text_of}
-use Rattle.xc_tree_words.specs.Words.{truth, binary_word, unary_word}
+use Rattle.xc_tree_words.specs.Words.{binary_word, unary_word}
+use Rattle.xc_word.specs.Numbers.{truth}
 use Rattle.xc_meaning.specs.Terms.{Term, Number, Read, Write, Update, Unary, Binary, And, Or, Cond, Comma, Print, Terms, NoMore, More, Command, Empty, Eval, Block, Return, Commands, End, Then}
 
 -- how far a thread has come: the replies that it will get, and its actions so far

@@ -8,7 +8,8 @@ use Rattle.xc_parse_grammar.specs.declared.goals.Goal.{Goal}
 use Rattle.xc_parse_grammar.specs.declared.goals.Shape.{Shape}
 use Rattle.xc_parse_grammar.specs.Grammar.{Form, leaf, ◌▹◌, leaves, Stops}
 use Rattle.xc_parse_grammar.specs.Building.{spell, apply, put}
-use Rattle.xc_parse_grammar.specs.Plan.{Act, does, shift, wrong, look, planned}
+use Rattle.xc_parse_grammar.specs.Plan.{Act, does, shift, wrong, planned}
+use Rattle.xc_parse_grammar.specs.InnerPlan.{look}
 use Rattle.xc_parse_grammar.proofs.Measure.{load, IsLighter, lighter}
 use Rattle.xc_parse_grammar.proofs.State.{the_start, Holds, begins, can_do, moved, can_put, shifted, no_shift_at_end, stops_at_wrong, stops_at_more, ended_at}
 use Rattle.xc_parse.specs.declared.parser.Turn.{Turn}
@@ -17,7 +18,7 @@ use Rattle.xc_parse.specs.declared.nodes.Nodes.{Nodes}
 use Rattle.xc_parse.specs.declared.nodes.Open.{Open}
 use Rattle.xc_parse.specs.Raws.{parts_of}
 use Rattle.xc_parse.specs.Nodes.{own, AreOpen, Builds, nowhere, needed}
-use Rattle.xc_parse.specs.Texts.{Pushed, IsDone}
+use Rattle.xc_parse.specs.InnerTexts.{Pushed, IsDone}
 use Rattle.xc_parse.proofs.Changes.{enough, as_many}
 
 -- the parser is in a state, whatever nodes are at work

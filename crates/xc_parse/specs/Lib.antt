@@ -2,3 +2,4 @@ pub mod Depth
 pub mod Nodes
 pub mod Raws
 pub mod Texts
+pub mod InnerTexts

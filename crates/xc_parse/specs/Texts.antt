@@ -1,20 +1,14 @@
 -- The words of a text, and which fault it is.
-use Rattle.std.specs.Prelude.{◌≡◌, ℕ, List, [], ◌∷◌, ◌++◌, map, reverse, length, Option, Some, None, slice_get, slice_range}
+use Rattle.std.specs.Prelude.{◌≡◌, ℕ, List, [], ◌∷◌, map, length, Option, Some, None, slice_get, slice_range}
 use Rattle.xc_lex.specs.declared.token.Token.{Token}
 use Rattle.xc_text_place.specs.declared.Pos.{Pos}
 use Rattle.xc_text_place.specs.Place.{IsPosition}
 use Rattle.xc_raw.specs.declared.tree.Raw.{Raw}
 use Rattle.xc_raw.specs.declared.word.Word.{Word}
 use Rattle.xc_raw.specs.Words.{word_of}
-use Rattle.xc_parse_grammar.specs.declared.goals.Goal.{Goal}
 use Rattle.xc_parse_grammar.specs.Grammar.{Form, Derives, Stops}
-use Rattle.xc_parse_grammar.specs.Plan.{Act, does, shift, wrong}
-use Rattle.xc_parse.specs.declared.nodes.Nodes.{Nodes}
 use Rattle.xc_parse.specs.Depth.{IsShallow, IsFirstDeep}
 use Rattle.xc_parse.specs.Raws.{raws_of}
-use Rattle.xc_parse.specs.Nodes.{Builds, nowhere}
-use Rattle.xc_parse.specs.declared.parser.Turn.{Turn}
-use Rattle.xc_parse.specs.declared.parser.Turn.TheVariants as turn
 use Rattle.xc_parse.specs.declared.parser.ParseFault.{ParseFault}
 use Rattle.xc_parse.specs.declared.parser.ParseFault.TheVariants.{NoMemory, Syntax, Depth}
 
@@ -26,13 +20,6 @@ words_of source tokens = map (λ t. word_of t.kind (slice_range source t.text.st
 abbrev pub place_of : ℕ → Option Token → ℕ
 place_of end None = end
 place_of end (Some t) = t.at.start
-
--- the goals before and after a move
-abbrev pub Pushed : Act → Turn → List Goal → List Goal → Type 0
-Pushed (does x new) (turn.Do y) old now = (x ≡ y) × (now ≡ old ++ reverse new)
-Pushed (shift new) turn.Shift old now = now ≡ old ++ reverse new
-Pushed wrong turn.Wrong old now = now ≡ old
-Pushed _ _ old now = ⊥
 
 -- the one tree of the grammar that the words have
 pub record IsTree (words : List Word) (f : Form) : Type 0 where
@@ -61,9 +48,3 @@ abbrev pub FaultFits : List ℕ → List Token → ParseFault → Type 0
 FaultFits source tokens NoMemory = Unit {0}
 FaultFits source tokens (Syntax pos) = (k : ℕ) × Stops (words_of source tokens) k × StandsAt source tokens k pos
 FaultFits source tokens (Depth pos) = (k : ℕ) × IsTooDeep (words_of source tokens) k × StandsAt source tokens k pos
-
--- the nodes at work are the one tree of the words
-pub record IsDone (words : List Word) (n : Nodes) : Type 0 where
-  pub tree : Form
-  pub is_tree : IsTree words tree
-  pub builds : Builds nowhere (length words) (tree ∷ []) n

@@ -5,6 +5,3 @@ mod nodes;
 mod parser;
 
 pub use parser::{ParseFault, parse};
-
-#[cfg(test)]
-mod tests;

@@ -1,9 +1,11 @@
 //! The parser, which keeps its own stack.
 
 ghost use Rattle.std.specs.Prelude.{◌≡◌, ◌≤◌, ◌<◌, ◌+◌, ◌^◌, List, length, OnOk, IfOk, IfErr, slice_get, vec_len};
-ghost use Rattle.xc_parse_grammar.specs.Plan.{act_of, look};
+ghost use Rattle.xc_parse_grammar.specs.Plan.{act_of};
+ghost use Rattle.xc_parse_grammar.specs.InnerPlan.{look};
 ghost use Rattle.xc_parse.specs.declared.parser.ParseFault.TheVariants.{NoMemory};
-ghost use Rattle.xc_parse.specs.Texts.{words_of, Pushed, Parsed, FaultFits, StandsAt, IsDone};
+ghost use Rattle.xc_parse.specs.Texts.{words_of, Parsed, FaultFits, StandsAt};
+ghost use Rattle.xc_parse.specs.InnerTexts.{Pushed, IsDone};
 
 use crate::nodes::Nodes;
 use std::alloc::{AllocError, AllocFailed, Global};
@@ -14,7 +16,7 @@ use xc_raw::{Level, Raw, Rule, Word, word_of};
 use xc_text_place::{Pos, position};
 
 /// Why there is no tree.
-#[derive(Debug, Drop)]
+#[derive(Drop)]
 pub enum ParseFault {
     NoMemory,
     /// The first token after which no continuation is in the grammar, or the end of the text.

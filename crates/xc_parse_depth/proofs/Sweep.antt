@@ -9,7 +9,8 @@ use Rattle.std.proofs.lemmas.Grind.{get_or_default_zero}
 use Rattle.std.proofs.lemmas.List.Elements.{All-head, All-tail}
 use Rattle.std.proofs.lemmas.List.Sums.{sum_by-cons, count_by-le-length, count_by_more_yes, count_by_more_no}
 use Rattle.xc_parse_depth.specs.declared.stretch.Stretch.{Stretch}
-use Rattle.xc_parse_depth.specs.Depths.{depth_at, Tallied}
+use Rattle.xc_parse_depth.specs.Depths.{depth_at}
+use Rattle.xc_parse_depth.specs.InnerDepths.{Tallied}
 
 -- how many stand just before the place
 abbrev pub before : List Stretch → ℕ → ℕ

@@ -1,5 +1,5 @@
 -- How many stretches stand at a place.
-use Rattle.std.specs.Prelude.{◌≡◌, ℕ, ◌+◌, ◌≤◌, ◌<◌, List, length, Option, Some, None, ◌&&◌, ◌==◌, nat_le, nat_lt, count_by, slice_index_or}
+use Rattle.std.specs.Prelude.{ℕ, ◌≤◌, ◌<◌, List, Option, Some, None, ◌&&◌, nat_le, nat_lt, count_by}
 use Rattle.xc_parse_depth.specs.declared.stretch.Stretch.{Stretch}
 
 -- how many of the stretches stand at the place
@@ -10,10 +10,3 @@ depth_at all k = count_by (λ s. nat_le s.first k && nat_lt k s.end) all
 abbrev pub IsFirstDeeper : List Stretch → ℕ → ℕ → Option ℕ → Type 0
 IsFirstDeeper all count limit None = (k : ℕ) → k < count → depth_at all k ≤ limit
 IsFirstDeeper all count limit (Some k) = (k < count) × (limit < depth_at all k) × ((j : ℕ) → j < k → depth_at all j ≤ limit)
-
--- how many begin and end at each place
-pub record Tallied (all : List Stretch) (count : ℕ) (begins ends : List ℕ) : Type 0 where
-  pub begins_length : length begins ≡ count + 1
-  pub ends_length : length ends ≡ count + 1
-  pub begin : (k : ℕ) → k ≤ count → slice_index_or begins k 0 ≡ count_by (λ s. s.first == k) all
-  pub end : (k : ℕ) → k ≤ count → slice_index_or ends k 0 ≡ count_by (λ s. s.end == k) all

@@ -1,12 +1,13 @@
 //! Stretches, and the first place at which too many of them stand.
 
 ghost use Rattle.std.specs.Prelude.{◌≡◌, ℕ, ◌+◌, ◌≤◌, ◌<◌, ◌^◌, All, IfOk, length};
-ghost use Rattle.xc_parse_depth.specs.Depths.{IsFirstDeeper, Tallied};
+ghost use Rattle.xc_parse_depth.specs.Depths.{IsFirstDeeper};
+ghost use Rattle.xc_parse_depth.specs.InnerDepths.{Tallied};
 
 use std::alloc::{AllocError, Global};
 
 /// The places from `first` up to `end`.
-#[derive(Clone, Copy, Debug)]
+#[derive(Clone, Copy)]
 pub struct Stretch {
     pub first: u32,
     pub end: u32,

@@ -16,7 +16,8 @@ use Rattle.xc_parse_grammar.specs.declared.marks.Item.{Item}
 use Rattle.xc_parse_grammar.specs.declared.marks.Item.TheVariants as item
 use Rattle.xc_parse_grammar.specs.declared.spots.Spot.{Spot}
 use Rattle.xc_parse_grammar.specs.declared.spots.Spot.TheVariants as spot
-use Rattle.xc_parse_grammar.specs.Marks.{number, accepts, rank, binary_rank, tighter, is_word_specifier, is_specifier, is_access, is_pragma, is_struct, is_open_brace, begins_declarator}
+use Rattle.xc_parse_grammar.specs.Marks.{number, accepts, rank, binary_rank, tighter, is_word_specifier, is_specifier, is_access, is_pragma, is_open_brace, begins_declarator}
+use Rattle.xc_raw.specs.Kinds.{is_struct}
 use Rattle.xc_parse_grammar.specs.Grammar.{Form, leaf, begin, ◌▹◌, Among, sort, is_else}
 use Rattle.xc_parse_grammar.specs.Spots.{steps, may_end, start}
 use Rattle.xc_parse_grammar.specs.Plan.{picked}

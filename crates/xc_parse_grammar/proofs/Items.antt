@@ -19,7 +19,8 @@ use Rattle.xc_parse_grammar.specs.declared.goals.Use.TheVariants.{Plain}
 use Rattle.xc_parse_grammar.specs.declared.goals.Goal.{Goal}
 use Rattle.xc_parse_grammar.specs.declared.goals.Goal.TheVariants as goal
 use Rattle.xc_parse_grammar.specs.declared.goals.Shape.TheVariants as shape
-use Rattle.xc_parse_grammar.specs.Marks.{accepts, is_specifier, is_word_specifier, is_struct, is_pragma, begins_rule, begins_declarator, begins_expr}
+use Rattle.xc_parse_grammar.specs.Marks.{accepts, is_specifier, is_word_specifier, is_pragma, begins_rule, begins_declarator, begins_expr}
+use Rattle.xc_raw.specs.Kinds.{is_struct}
 use Rattle.xc_parse_grammar.specs.Grammar.{Form, leaf, begin, ◌▹◌, leaves, Among, Fits, sort, Is, InClass, is_item, is_stmt, Derives}
 use Rattle.xc_parse_grammar.specs.Spots.{steps, start}
 use Rattle.xc_parse_grammar.specs.Plan.{Act, does, begin_at, statement, read_item, read_block_item, read_init, item_rest, future_next, planned}

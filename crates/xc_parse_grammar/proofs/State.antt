@@ -20,7 +20,8 @@ use Rattle.xc_parse_grammar.specs.Grammar.{Form, leaf, begin, ◌▹◌, leaves,
 use Rattle.xc_parse_grammar.specs.Marks.{level_rank, of_kind}
 use Rattle.xc_parse_grammar.specs.declared.marks.Kind.TheVariants as kind
 use Rattle.xc_parse_grammar.specs.Spots.{may_end}
-use Rattle.xc_parse_grammar.specs.Plan.{look, Act, does, shift, wrong, ended, at_picked, tail, tail_ends, planned}
+use Rattle.xc_parse_grammar.specs.Plan.{Act, does, shift, wrong, ended, at_picked, tail, tail_ends, planned}
+use Rattle.xc_parse_grammar.specs.InnerPlan.{look}
 use Rattle.xc_parse_grammar.specs.Building.{spell, retitle, apply, put}
 use Rattle.xc_parse_grammar.proofs.Links.{to_whole}
 use Rattle.xc_parse_grammar.proofs.Needs.{Needed}

@@ -16,7 +16,8 @@ use Rattle.xc_parse_grammar.specs.declared.marks.Item.{Item}
 use Rattle.xc_parse_grammar.specs.declared.marks.Item.TheVariants as item
 use Rattle.xc_parse_grammar.specs.declared.spots.Spot.{Spot}
 use Rattle.xc_parse_grammar.specs.declared.spots.Spot.TheVariants as spot
-use Rattle.xc_parse_grammar.specs.Marks.{number, accepts, rank, is_word_specifier, is_specifier, is_literal, is_access, is_step, is_prefix, is_pragma, is_struct, is_open_brace, is_semicolon, is_close, begins_expr, begins_stmt, begins_rule, begins}
+use Rattle.xc_parse_grammar.specs.Marks.{number, accepts, rank, is_word_specifier, is_specifier, is_literal, is_access, is_step, is_prefix, is_pragma, is_open_brace, is_semicolon, is_close, begins_expr, begins_stmt, begins_rule, begins}
+use Rattle.xc_raw.specs.Kinds.{is_struct}
 use Rattle.xc_parse_grammar.specs.Grammar.{Among, height, AtLeast, InClass, is_stmt}
 use Rattle.xc_parse_grammar.specs.Spots.{steps, start}
 use Rattle.xc_parse_grammar.specs.Plan.{picked}

@@ -16,6 +16,7 @@ use Rattle.xc_parse_grammar.specs.declared.marks.Kind.{Kind}
 use Rattle.xc_parse_grammar.specs.declared.marks.Kind.TheVariants as kind
 use Rattle.xc_parse_grammar.specs.declared.marks.Item.{Item}
 use Rattle.xc_parse_grammar.specs.declared.marks.Item.TheVariants as item
+use Rattle.xc_raw.specs.Kinds.{is_struct, is_future}
 
 -- a number of each word that has no value, 0 for the others
 abbrev pub number : Word → ℕ
@@ -134,10 +135,6 @@ abbrev pub is_pragma : Word → Bool
 is_pragma word.Pragma = true
 is_pragma _ = false
 
-abbrev pub is_struct : Word → Bool
-is_struct word.Struct = true
-is_struct _ = false
-
 abbrev pub is_open_brace : Word → Bool
 is_open_brace word.OpenBrace = true
 is_open_brace _ = false
@@ -185,10 +182,6 @@ is_break _ = false
 abbrev pub is_continue : Word → Bool
 is_continue word.Continue = true
 is_continue _ = false
-
-abbrev pub is_future : Word → Bool
-is_future word.Future = true
-is_future _ = false
 
 abbrev pub begins_declarator : Word → Bool
 begins_declarator word.Star = true

@@ -296,8 +296,3 @@ planned goal.FutureWord w = future_word w
 planned goal.FutureNext w = future_next w
 planned goal.FutureName w = future_name w
 planned goal.FutureRest w = future_rest w
-
--- the next word, which is Foreign at the end of the text
-abbrev pub look : Option Word → Word
-look None = word.Foreign
-look (Some w) = w

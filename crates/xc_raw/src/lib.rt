@@ -11,6 +11,3 @@ pub use word::{
     Access, AssignOp, BinaryOp, Complement, Literal, Qualifier, Sign, Specifier, Step, Word,
     word_of,
 };
-
-#[cfg(test)]
-mod tests;

@@ -20,7 +20,7 @@
 /// ```
 ///
 /// So there is no node for a rule that only passes on another: where an `assign` is just a name, it is one `Prim`.
-#[derive(Clone, Copy, Debug, PartialEq, Eq)]
+#[derive(Clone, Copy)]
 pub enum Rule {
     /// `item {item}`: a text.
     Unit,
@@ -104,7 +104,7 @@ pub enum Rule {
 }
 
 /// The levels of binary operators (C99 6.5.5 to 6.5.14), loosest first.
-#[derive(Clone, Copy, Debug, PartialEq, Eq)]
+#[derive(Clone, Copy)]
 pub enum Level {
     Or,
     And,

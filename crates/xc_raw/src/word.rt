@@ -6,7 +6,7 @@ ghost use Rattle.xc_raw.specs.Words.{found, keyword_of, punctuator_of, word_of};
 use xc_lex::{Token, TokenKind};
 
 /// A token of the grammar. A comment names the punctuator.
-#[derive(Clone, Copy, Debug, PartialEq, Eq)]
+#[derive(Clone, Copy, PartialEq, Eq)]
 pub enum Word {
     Name,
     Literal(Literal),
@@ -62,14 +62,14 @@ pub enum Word {
 }
 
 /// A constant.
-#[derive(Clone, Copy, Debug, PartialEq, Eq)]
+#[derive(Clone, Copy, PartialEq, Eq)]
 pub enum Literal {
     Number,
     Text,
 }
 
 /// A specifier that is no qualifier, but `void` and `struct`.
-#[derive(Clone, Copy, Debug, PartialEq, Eq)]
+#[derive(Clone, Copy, PartialEq, Eq)]
 pub enum Specifier {
     Static,
     Int,
@@ -79,21 +79,21 @@ pub enum Specifier {
 }
 
 /// A qualifier that is a specifier too, but `future`.
-#[derive(Clone, Copy, Debug, PartialEq, Eq)]
+#[derive(Clone, Copy, PartialEq, Eq)]
 pub enum Qualifier {
     Const,
     Sync,
 }
 
 /// `.` or `->`.
-#[derive(Clone, Copy, Debug, PartialEq, Eq)]
+#[derive(Clone, Copy, PartialEq, Eq)]
 pub enum Access {
     Dot,
     Arrow,
 }
 
 /// A compound assignment's operator.
-#[derive(Clone, Copy, Debug, PartialEq, Eq)]
+#[derive(Clone, Copy, PartialEq, Eq)]
 pub enum AssignOp {
     Multiply,
     Divide,
@@ -108,28 +108,28 @@ pub enum AssignOp {
 }
 
 /// `+` or `-`, before an operand or between two.
-#[derive(Clone, Copy, Debug, PartialEq, Eq)]
+#[derive(Clone, Copy, PartialEq, Eq)]
 pub enum Sign {
     Plus,
     Minus,
 }
 
 /// `~` or `!`.
-#[derive(Clone, Copy, Debug, PartialEq, Eq)]
+#[derive(Clone, Copy, PartialEq, Eq)]
 pub enum Complement {
     Bits,
     Truth,
 }
 
 /// `++` or `--`.
-#[derive(Clone, Copy, Debug, PartialEq, Eq)]
+#[derive(Clone, Copy, PartialEq, Eq)]
 pub enum Step {
     Increment,
     Decrement,
 }
 
 /// An operator that stands between two operands only.
-#[derive(Clone, Copy, Debug, PartialEq, Eq)]
+#[derive(Clone, Copy, PartialEq, Eq)]
 pub enum BinaryOp {
     Divide,
     Remainder,

@@ -18,6 +18,3 @@ pub use operators::{
 pub use places::{Brackets, PlaceStep, first_brackets, place_steps};
 pub use spans::{behind, declarator_span, span_of, spot, word_at};
 pub use words::{between, specifier_words, star_words};
-
-#[cfg(test)]
-mod tests;

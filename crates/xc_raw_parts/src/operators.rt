@@ -9,7 +9,7 @@ use xc_raw::{Access, AssignOp, BinaryOp, Complement, Raw, Sign, Step, Word};
 use xc_tree::{BinOp, UnOp};
 
 /// An operator between two operands.
-#[derive(Clone, Copy, Debug, PartialEq, Eq)]
+#[derive(Clone, Copy, PartialEq, Eq)]
 pub enum Operator {
     Value(BinOp),
     /// `&&`

@@ -18,7 +18,7 @@ pub fn between(tokens: &[Token], from: u32, to: u32) -> &[Token]
     &tokens[start..end]
 }
 
-#[tactic(auto, using(crate::proofs::Walks::walk_rules))]
+#[tactic(auto, using(crate::proofs::WordWalks::walk_rules))]
 fn push_words(source: &[u8], tokens: &[Token], words: &mut Items<Word>) -> Result<(), AllocError>
     ensures { OnOk result (words.new ≡ words.old ++ spec.words_in source.now tokens.now) }
 {
@@ -29,7 +29,7 @@ fn push_words(source: &[u8], tokens: &[Token], words: &mut Items<Word>) -> Resul
 }
 
 /// The words of a list of specifiers, which is a node `Specs`. Of a struct's specifier they have its keyword alone.
-#[tactic(auto, using(crate::proofs::Walks::walk_rules))]
+#[tactic(auto, using(crate::proofs::WordWalks::walk_rules))]
 pub fn specifier_words(
     alloc: Global,
     source: &[u8],
@@ -60,7 +60,7 @@ fn is_of_stars(word: Word) -> bool
 }
 
 /// The stars and their qualifiers with which the tokens from `from` up to `to` begin.
-#[tactic(auto, using(crate::proofs::Walks::walk_rules))]
+#[tactic(auto, using(crate::proofs::WordWalks::walk_rules))]
 pub fn star_words(
     alloc: Global,
     source: &[u8],

@@ -10,16 +10,18 @@ use Rattle.xc_text_lines.specs.declared.lines.ReadFault.{ReadFault}
 use Rattle.xc_text_lines.specs.declared.lines.ReadFault.TheVariants as reading
 use Rattle.xc_text_lines.specs.Lines.{is_feed, words_of, pieces, read_pieces, at_option, Reads, HasFewLines}
 use Rattle.xc_text_lines.specs.Numbers.{number_of}
-use Rattle.xc_text_lines.specs.Grammar.{HasNoFeed, IsFormat, InFormat, IsFirstBad}
-use Rattle.xc_text_lines.specs.Grammar.{runs as runs_lines}
-use Rattle.xc_text_lines.specs.Grammar.{Spells as LinesSpell}
+use Rattle.xc_text_lines.specs.Grammar.{IsFirstBad}
+use Rattle.xc_text_lines.specs.InnerGrammar.{HasNoFeed, IsFormat, InFormat}
+use Rattle.xc_text_lines.specs.InnerGrammar.{runs as runs_lines}
+use Rattle.xc_text_lines.specs.InnerGrammar.{Spells as LinesSpell}
 use Rattle.xc_text_lines.proofs.Numerals.{number_spells, number_decimal}
 use Rattle.xc_text_lines.proofs.Laws.{is_found, is_only, is_first_bad, first_bad_same, count-with_feeds}
 use Rattle.xc_text_lines.proofs.Joins.{IsWord, words-join, join-words, no_feed-join, decimal_word}
 use Rattle.xc_sched.specs.declared.run.Run.{Run}
 use Rattle.xc_sched.specs.declared.text.SchedFault.TheVariants.{Line, NoMemory}
 use Rattle.xc_sched.specs.Faults.{fault_of}
-use Rattle.xc_sched.specs.Runs.{header, is_valid, last_of, is_other, FitsAfter, Fits, steps_of, line_of, text_of, IsSchedule}
+use Rattle.xc_sched.specs.Runs.{header, is_valid, is_other, FitsAfter, Fits, steps_of, line_of, text_of, IsSchedule}
+use Rattle.xc_sched.specs.InnerRuns.{last_of}
 use Rattle.xc_sched.specs.Drafts.{Reading, run_from, run_of, added, next, whole, lines_of, FitsSoFar}
 use Rattle.xc_sched.proofs.RunLemmas.{ranges_of, valid_of, valid_in, other_in, may_from, fits_push, last_push}
 

@@ -7,7 +7,8 @@ use Rattle.std.proofs.lemmas.Option.{slice_get-get_or}
 use Rattle.std.proofs.lemmas.List.{drop-append-le, drop-set-add, get_or-drop, length-drop, length-append, length-set}
 use Rattle.xc_sched.specs.declared.run.Run.{Run}
 use Rattle.xc_sched.specs.declared.recorder.Loss.TheVariants.{Steps}
-use Rattle.xc_sched.specs.Runs.{last_of, is_other, FitsAfter, Fits, steps_of}
+use Rattle.xc_sched.specs.Runs.{is_other, FitsAfter, Fits, steps_of}
+use Rattle.xc_sched.specs.InnerRuns.{last_of}
 use Rattle.xc_sched.specs.Runs.{KeepsRuns}
 use Rattle.xc_sched.specs.Losses.{steps_at_end, loss_of}
 use Rattle.xc_sched.proofs.RunLemmas.{Ranges, ranges_of, valid_of, valid_in, other_in, is_not, may_from, fits_push, last_is, steps_of-cons, steps_of-push, longer, grow_fits, grow_steps}

@@ -8,7 +8,8 @@ use Rattle.std.proofs.lemmas.Grind.{flat_map-append}
 use Rattle.std.proofs.lemmas.List.{append-nil, drop_more, drop-set, length-set, replicate-append-replicate}
 use Rattle.std.proofs.lemmas.List.Concat.{flat_map-cons}
 use Rattle.xc_sched.specs.declared.run.Run.{Run}
-use Rattle.xc_sched.specs.Runs.{is_valid, last_of, is_other, may_follow, FitsAfter, Fits, steps_of}
+use Rattle.xc_sched.specs.Runs.{is_valid, is_other, may_follow, FitsAfter, Fits, steps_of}
+use Rattle.xc_sched.specs.InnerRuns.{last_of}
 use Rattle.xc_sched.specs.Runs.{KeepsRuns}
 
 -- ---- the last run

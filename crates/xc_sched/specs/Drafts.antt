@@ -4,7 +4,8 @@ use Rattle.std.specs.Str.{bytes_eq}
 use Rattle.xc_text_lines.specs.Lines.{words_of}
 use Rattle.xc_text_lines.specs.Numbers.{number_of}
 use Rattle.xc_sched.specs.declared.run.Run.{Run}
-use Rattle.xc_sched.specs.Runs.{header, last_of, is_other, line_of, Fits}
+use Rattle.xc_sched.specs.Runs.{header, is_other, line_of, Fits}
+use Rattle.xc_sched.specs.InnerRuns.{last_of}
 
 -- whether the first line was read, and the runs
 abbrev pub Reading : Type 0

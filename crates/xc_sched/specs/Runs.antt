@@ -12,11 +12,6 @@ header = codes "schedule 1"
 abbrev pub is_valid : Run → Bool
 is_valid r = nat_lt r.stream 1024 && (nat_le 1 r.count && nat_le r.count (2 ^ 31))
 
--- the stream of the last run, after a stream before them
-abbrev pub last_of : Option ℕ → List Run → Option ℕ
-last_of before [] = before
-last_of before (r ∷ runs) = last_of (Some r.stream) runs
-
 abbrev pub is_other : Option ℕ → ℕ → Bool
 is_other None s = true
 is_other (Some t) s = not (t == s)

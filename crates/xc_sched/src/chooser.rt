@@ -21,7 +21,7 @@ pub trait Chooser {
 /// Chooses the lowest ready stream above the last one that was chosen, else the lowest ready one.
 ///
 /// Contracts see the stream after the last one that was chosen, at first 0.
-#[derive(Debug, Drop)]
+#[derive(Drop)]
 pub struct RoundRobin {
     from: u32,
 }
@@ -68,7 +68,7 @@ impl Chooser for RoundRobin {
 /// Chooses by a linear congruential generator.
 ///
 /// Contracts see the generator's state.
-#[derive(Debug, Drop)]
+#[derive(Drop)]
 pub struct Seeded {
     x: u64,
 }

@@ -14,6 +14,3 @@ pub use ready::Ready;
 pub use recorded::Recorded;
 pub use recorder::{Loss, Recorder};
 pub use text::{SchedFault, print_schedule, read_schedule};
-
-#[cfg(test)]
-mod tests;

@@ -12,7 +12,7 @@ use std::marker::Model;
 /// Which of a number of streams are ready.
 ///
 /// Contracts see a list with a flag for each stream.
-#[derive(Debug, Drop)]
+#[derive(Drop)]
 pub struct Ready {
     words: Vec<u64>,
     streams: u32,

@@ -21,7 +21,7 @@ pub enum Loss {
 /// Answers what its inner chooser answers, and records that until the first loss.
 ///
 /// Contracts see the inner chooser, the recorded streams, step by step, and the first loss.
-#[derive(Debug, Drop)]
+#[derive(Drop)]
 pub struct Recorder<C> {
     inner: C,
     taken: Recorded,

@@ -1,7 +1,8 @@
 //! Runs of steps of one stream.
 
 ghost use Rattle.std.specs.Prelude.{◌≡◌, ◌≤◌, length, drop};
-ghost use Rattle.xc_sched.specs.Runs.{last_of, is_other as is_other_stream};
+ghost use Rattle.xc_sched.specs.Runs.{is_other as is_other_stream};
+ghost use Rattle.xc_sched.specs.InnerRuns.{last_of};
 
 /// The streams that a schedule may name are below this.
 pub(crate) const STREAMS: u32 = 1024;
@@ -13,7 +14,7 @@ pub(crate) const STEPS: u32 = 1 << 31;
 pub(crate) const RUNS: usize = (1 << 32) - 3;
 
 /// So many steps of one stream.
-#[derive(Clone, Copy, Debug, PartialEq, Eq)]
+#[derive(Clone, Copy, Debug)]
 pub(crate) struct Run {
     pub(crate) stream: u32,
     pub(crate) count: u32,

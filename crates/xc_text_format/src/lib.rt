@@ -9,7 +9,7 @@ use itoa::Buffer;
 use std::alloc::AllocError;
 
 /// A part of a format: a byte that is printed as it is, or a conversion of the next value.
-#[derive(Clone, Copy, Debug, PartialEq, Eq)]
+#[derive(Clone, Copy, PartialEq, Eq)]
 pub enum Piece {
     Byte(u8),
     /// The value as a signed number.
@@ -19,7 +19,7 @@ pub enum Piece {
 }
 
 /// How much of a conversion has been read.
-#[derive(Clone, Copy, Debug, PartialEq, Eq)]
+#[derive(Clone, Copy, PartialEq, Eq)]
 pub enum Reading {
     Text,
     Percent,
@@ -28,7 +28,7 @@ pub enum Reading {
 }
 
 /// What one more byte of a format makes.
-#[derive(Clone, Copy, Debug, PartialEq, Eq)]
+#[derive(Clone, Copy, PartialEq, Eq)]
 pub enum Step {
     Gives(Piece),
     Reads(Reading),
@@ -122,6 +122,3 @@ fn print_pieces(out: &mut Vec<u8>, format: &[u8], values: &[u64]) -> Result<(), 
     }
     Ok(())
 }
-
-#[cfg(test)]
-mod tests;

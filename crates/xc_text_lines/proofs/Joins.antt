@@ -8,7 +8,7 @@ use Rattle.std.proofs.lemmas.Bool.Decides.{nat_tests}
 use Rattle.std.proofs.lemmas.Fmt.{digits_decimal}
 use Rattle.std.proofs.lemmas.Str.Parse.{tells_all_ascii_digits}
 use Rattle.xc_text_lines.specs.Lines.{is_feed, is_space, words_of}
-use Rattle.xc_text_lines.specs.Grammar.{HasNoFeed}
+use Rattle.xc_text_lines.specs.InnerGrammar.{HasNoFeed}
 use Rattle.xc_text_lines.proofs.Reading.{neither}
 use Rattle.xc_text_lines.proofs.Numerals.{own}
 

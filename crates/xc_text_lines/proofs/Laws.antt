@@ -8,7 +8,8 @@ use Rattle.std.proofs.lemmas.Grind.{flat_map-append}
 use Rattle.std.proofs.lemmas.List.Splits.{slice_split-cons_yes, slice_split-cons_no, join_with_byte-slice_split, length-slice_split}
 use Rattle.std.proofs.lemmas.List.Sums.{count_by-le-length}
 use Rattle.xc_text_lines.specs.Lines.{is_feed, pieces, HasFewLines, at_option, read_from, read_pieces}
-use Rattle.xc_text_lines.specs.Grammar.{with_feeds, IsGood, IsFirstBad, runs, HasNoFeed, IsFormat, Spells, InFormat}
+use Rattle.xc_text_lines.specs.Grammar.{with_feeds, IsGood, IsFirstBad}
+use Rattle.xc_text_lines.specs.InnerGrammar.{runs, HasNoFeed, IsFormat, Spells, InFormat}
 use Rattle.xc_text_lines.proofs.Reading.{neither, read_on, some_pieces}
 
 -- ---- pieces

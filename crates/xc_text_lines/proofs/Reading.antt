@@ -6,7 +6,8 @@ use Rattle.std.proofs.lemmas.Bool.{ltb-true, lt-ltb, cases_lt}
 use Rattle.std.proofs.lemmas.Option.{cond_some, none-some}
 use Rattle.std.proofs.lemmas.List.{length-drop}
 use Rattle.std.proofs.lemmas.List.Splits.{slice_split_first, slice_split-cons_no, length-slice_split}
-use Rattle.xc_text_lines.specs.Lines.{is_feed, pieces, at_option, read_pieces, CutsLine}
+use Rattle.xc_text_lines.specs.Lines.{is_feed, pieces, at_option, read_pieces}
+use Rattle.xc_text_lines.specs.InnerLines.{CutsLine}
 
 pub neither : (b t : Bool) → (b || t) ≡ false → (b ≡ false) × (t ≡ false)
 neither true t e = absurd cc

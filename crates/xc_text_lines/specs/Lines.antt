@@ -22,12 +22,6 @@ is_space b = b == 32
 abbrev pub words_of : List ℕ → List (List ℕ)
 words_of line = slice_split is_space line
 
--- the first line of a text, and what follows its line feed
-pub record CutsLine (text line rest : List ℕ) : Type 0 where
-  pub shorter : length rest < length text
-  pub parts : pieces text ≡ line ∷ pieces rest
-  pub count : count_by is_feed text ≡ count_by is_feed rest + 1
-
 abbrev pub at_option : {A B : Type 0} → Option A → B → (A → B) → B
 at_option None none some = none
 at_option (Some x) none some = some x

@@ -13,6 +13,3 @@ pub use numbers::{number, number_below, signed_number};
 pub use word::{
     cut_word, end_line, hex_bytes, push_hex, push_number, push_signed, push_space, words,
 };
-
-#[cfg(test)]
-mod tests;

@@ -1,7 +1,8 @@
 //! Lines of a text, one after the other.
 
 ghost use Rattle.std.specs.Prelude.{◌≡◌, Bool, List, ℕ, Option, Some, None, [], ◌∷◌, position, MatchOption, MatchResult};
-ghost use Rattle.xc_text_lines.specs.Lines.{is_feed, pieces, HasFewLines, read_pieces, Reads, CutsLine};
+ghost use Rattle.xc_text_lines.specs.Lines.{is_feed, pieces, HasFewLines, read_pieces, Reads};
+ghost use Rattle.xc_text_lines.specs.InnerLines.{CutsLine};
 
 use std::alloc::AllocError;
 

@@ -1,5 +1,5 @@
 -- What a command answers to the texts of its files.
-use Rattle.std.specs.Prelude.{◌≡◌, ◌≤◌, ◌^◌, ℕ, List, [], ◌++◌, length, Option, Some, None}
+use Rattle.std.specs.Prelude.{◌≡◌, ◌≤◌, ℕ, List, [], ◌++◌, Option, Some, None}
 use Rattle.xc_meaning_world.specs.World.{World, Action}
 use Rattle.xc_text_place.specs.declared.Pos.{Pos}
 use Rattle.xc_tree.specs.declared.tree.Tree.{Tree}
@@ -61,18 +61,6 @@ Chooses choice.Turns schedule s = s ≡ source.Turns
 Chooses (choice.Seed n) schedule s = s ≡ source.Seed n
 Chooses (choice.Schedule file) None s = ⊥
 Chooses (choice.Schedule file) (Some text) s = (steps : List ℕ) × SpellsSteps text steps × (s ≡ source.Schedule steps)
-
--- where a schedule is named its text is given, and has at most 64 MiB
-abbrev pub IsGiven : Choice → Option (List ℕ) → Type 0
-IsGiven choice.Turns schedule = Unit {0}
-IsGiven (choice.Seed n) schedule = Unit {0}
-IsGiven (choice.Schedule file) None = ⊥
-IsGiven (choice.Schedule file) (Some text) = length text ≤ 2 ^ 26
-
--- so it is where the options name one
-abbrev pub IsGivenTo : Option Options → Option (List ℕ) → Type 0
-IsGivenTo None schedule = Unit {0}
-IsGivenTo (Some o) schedule = IsGiven o.choice schedule
 
 -- line k is the first bad one of a schedule's text
 abbrev pub IsBadSchedule : Choice → Option (List ℕ) → List ℕ → ℕ → Type 0

@@ -2,4 +2,5 @@ pub mod Codes
 pub mod Lines
 pub mod Seen
 pub mod Judges
+pub mod InnerJudges
 pub mod Answers

@@ -3,7 +3,8 @@
 ghost use Rattle.std.specs.Prelude.{◌≡◌, ◌≤◌, ◌^◌, ℕ, List, [], Some, None, length, IfOk, MatchResult};
 ghost use Rattle.std.specs.Option.{option_map};
 ghost use Rattle.xc_top_words.specs.Commands.{options_in};
-ghost use Rattle.xc_top.specs.Judges.{IsSourceCode, IsRefusedSource, IsRefusedCode, StandsFor, IsRefused, Chooses, IsBadSchedule, IsGiven, IsGivenTo, status_of, with_choices, Executes, IsWritten, Judges};
+ghost use Rattle.xc_top.specs.Judges.{IsSourceCode, IsRefusedSource, IsRefusedCode, StandsFor, IsRefused, Chooses, IsBadSchedule, status_of, with_choices, Executes, IsWritten, Judges};
+ghost use Rattle.xc_top.specs.InnerJudges.{IsGiven, IsGivenTo};
 ghost use Rattle.xc_top.specs.Lines.{line_of};
 ghost use Rattle.xc_top.specs.Answers.{limit_in};
 ghost use Rattle.xc_isa_text.specs.Texts.{contents_of, Spells};
@@ -31,7 +32,7 @@ pub(crate) struct Plan {
 }
 
 /// Why a text stands for no code.
-#[derive(Clone, Copy, Debug, PartialEq, Eq)]
+#[derive(Clone, Copy)]
 enum CodeFault {
     Refused { kind: FileKind, at: Pos },
     NoMemory,

@@ -10,6 +10,3 @@ mod top;
 pub use status::{Bad, FileKind, Numbers, Status};
 pub use top::xmtc;
 pub use xc_top_words::Name;
-
-#[cfg(test)]
-mod tests;

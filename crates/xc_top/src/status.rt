@@ -9,7 +9,7 @@ use xc_text_place::Pos;
 use xc_top_words::Name;
 
 /// Why a file is refused.
-#[derive(Clone, Copy, Debug, PartialEq, Eq)]
+#[derive(Clone, Copy)]
 pub enum FileKind {
     /// The text is no assembly.
     Asm,
@@ -18,14 +18,14 @@ pub enum FileKind {
 }
 
 /// What a run made of steps, on how many streams.
-#[derive(Clone, Copy, Debug, PartialEq, Eq)]
+#[derive(Clone, Copy)]
 pub struct Numbers {
     pub steps: u64,
     pub streams: u32,
 }
 
 /// What is wrong with a schedule.
-#[derive(Debug, Drop)]
+#[derive(Drop)]
 pub enum Bad {
     /// The text of the file is no schedule: its first bad line.
     Line { name: Name, line: u32 },
@@ -34,7 +34,7 @@ pub enum Bad {
 }
 
 /// How the top call ended.
-#[derive(Debug, Drop)]
+#[derive(Drop)]
 pub enum Status {
     /// The run ended, and all was written.
     Ok(Numbers),

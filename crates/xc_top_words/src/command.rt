@@ -9,7 +9,7 @@ use std::alloc::{AllocError, Global};
 use std::marker::Model;
 
 /// The name of a file. Contracts see its bytes.
-#[derive(Debug, Drop)]
+#[derive(Drop)]
 pub struct Name {
     text: String,
 }
@@ -38,7 +38,7 @@ impl Name {
 }
 
 /// What chooses the stream that steps next.
-#[derive(Debug, Drop)]
+#[derive(Drop)]
 pub enum Choice {
     /// Round robin.
     Turns,
@@ -49,7 +49,7 @@ pub enum Choice {
 }
 
 /// How code is run.
-#[derive(Debug, Drop)]
+#[derive(Drop)]
 pub struct Options {
     /// The number of streams.
     pub streams: Streams,
@@ -65,7 +65,7 @@ pub struct Options {
 }
 
 /// What the words say.
-#[derive(Debug, Drop)]
+#[derive(Drop)]
 pub enum Command {
     /// Compiles and runs the program in a file.
     Run { options: Options, file: Name },

@@ -12,7 +12,7 @@ use std::alloc::Global;
 use xc_text_lines::number;
 
 /// What the next word may be.
-#[derive(Clone, Copy, Debug, PartialEq, Eq)]
+#[derive(Clone, Copy, PartialEq, Eq)]
 pub(crate) enum Place {
     /// An option or a name.
     Anywhere,
@@ -23,7 +23,7 @@ pub(crate) enum Place {
 }
 
 /// What the words have said so far.
-#[derive(Debug, Drop)]
+#[derive(Drop)]
 pub(crate) struct Given {
     pub(crate) place: Place,
     pub(crate) streams: Option<Streams>,

@@ -11,7 +11,7 @@ use std::alloc::Global;
 use xc_text_lines::number;
 
 /// An option that has a value.
-#[derive(Clone, Copy, Debug, PartialEq, Eq)]
+#[derive(Clone, Copy, PartialEq, Eq)]
 pub(crate) enum Setting {
     Streams,
     Seed,

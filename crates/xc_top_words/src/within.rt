@@ -5,7 +5,7 @@ ghost use Rattle.std.specs.Prelude.{◌≡◌, ◌≤◌};
 use std::marker::Model;
 
 /// A number from `LOW` to `HIGH`. Contracts see the number.
-#[derive(Clone, Copy, Debug, PartialEq, Eq)]
+#[derive(Clone, Copy, PartialEq, Eq)]
 pub struct Within<const LOW: u64, const HIGH: u64> {
     number: u64,
 }

@@ -9,7 +9,7 @@ use crate::options::{is_dashed, name_in};
 use std::alloc::{AllocError, Global};
 
 /// Why no command was read.
-#[derive(Clone, Copy, Debug, PartialEq, Eq)]
+#[derive(Clone, Copy, PartialEq, Eq)]
 pub enum WordsFault {
     /// The words are no command.
     Usage,

@@ -262,9 +262,6 @@ part_of cx = fold-Expr Row Part (kind_step cx)
 abbrev pub expr_ok : Context → Expr → Bool
 expr_ok cx e = (part_of cx e).ok
 
-abbrev pub exprs_ok : Context → List Expr → Bool
-exprs_ok cx es = every (map (expr_ok cx) es)
-
 -- the same, where its value is used
 abbrev pub value_ok : Context → Expr → Bool
 value_ok cx e = expr_ok cx e && is_value (part_of cx e)

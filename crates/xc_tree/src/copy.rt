@@ -8,6 +8,3 @@ pub mod ty;
 pub use expr::copy_expr;
 pub use stmt::{copy_pragmas, copy_stmt};
 pub use ty::copy_ty;
-
-#[cfg(test)]
-mod tests;

@@ -1,7 +1,7 @@
 //! Operators.
 
 /// The binary operators of C99 6.5.5 to 6.5.12, in the order of its sections.
-#[derive(Drop, Clone, Copy, Debug, PartialEq, Eq)]
+#[derive(Drop, Clone, Copy, PartialEq, Eq)]
 pub enum BinOp {
     /// `*`
     Mul,
@@ -38,7 +38,7 @@ pub enum BinOp {
 }
 
 /// The unary operators on values.
-#[derive(Drop, Clone, Copy, Debug, PartialEq, Eq)]
+#[derive(Drop, Clone, Copy)]
 pub enum UnOp {
     /// `-`
     Neg,

@@ -46,7 +46,7 @@ impl Flags for Marks {
 }
 
 /// What an access goes through, by its number.
-#[derive(Drop, Clone, Copy, Debug, PartialEq, Eq)]
+#[derive(Drop, Clone, Copy, PartialEq, Eq)]
 pub enum Root {
     /// A named object at file scope.
     Global(u32),
@@ -61,7 +61,7 @@ pub enum Root {
 }
 
 /// How the iterations of a loop are dealt out to the members of a team.
-#[derive(Drop, Clone, Copy, Debug, PartialEq, Eq)]
+#[derive(Drop, Clone, Copy, PartialEq, Eq)]
 pub enum Schedule {
     /// `block`: each member has one run of neighbouring iterations.
     Block,

@@ -9,7 +9,7 @@ use xc_text_place::Span;
 pub type LoopId = u32;
 
 /// The keyword of a loop.
-#[derive(Drop, Clone, Copy, Debug, PartialEq, Eq)]
+#[derive(Drop, Clone, Copy)]
 pub enum LoopForm {
     /// `while (test) body`
     While,
@@ -20,7 +20,7 @@ pub enum LoopForm {
 }
 
 /// Why a loop is not in normal form: the first of these that holds.
-#[derive(Drop, Clone, Copy, Debug, PartialEq, Eq)]
+#[derive(Drop, Clone, Copy, PartialEq, Eq)]
 pub enum NotNormal {
     /// It is a `while`.
     While,

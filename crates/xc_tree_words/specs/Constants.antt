@@ -8,7 +8,8 @@ use Rattle.xc_tree.specs.declared.expr.Expr.{Expr}
 use Rattle.xc_tree.specs.declared.expr.ExprKind.TheOpen.{ExprKind-F}
 use Rattle.xc_tree.specs.declared.expr.ExprKind.TheFolds.{fold-Expr}
 use Rattle.xc_tree.specs.Types.{is_number}
-use Rattle.xc_tree_words.specs.Words.{works_on_uint, truth, binary_word, unary_word}
+use Rattle.xc_tree_words.specs.Words.{works_on_uint, binary_word, unary_word}
+use Rattle.xc_word.specs.Numbers.{truth}
 
 abbrev pub int_at : Ty-F Ty → Bool
 int_at Ty-F.Int = true

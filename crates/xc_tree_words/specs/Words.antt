@@ -8,6 +8,7 @@ use Rattle.xc_tree.specs.declared.ty.Ty.{Ty, out-Ty}
 use Rattle.xc_tree.specs.declared.ty.Ty.TheOpen.{Ty-F}
 use Rattle.xc_tree.specs.declared.operator.UnOp.{UnOp}
 use Rattle.xc_tree.specs.declared.operator.UnOp.TheVariants as unary
+use Rattle.xc_word.specs.Numbers.{signed, word, truth}
 
 -- the type of words without a sign
 abbrev pub uint_at : Ty-F Ty → Bool
@@ -25,17 +26,6 @@ is_shift _ = false
 -- the operation is on Uint: a shift by the type of its left operand, else where one operand is Uint (C99 6.3.1.8)
 abbrev pub works_on_uint : BinOp → Ty → Ty → Bool
 works_on_uint o a b = is_uint a || (not (is_shift o) && is_uint b)
-
--- the number that a word of type Int stands for
-abbrev pub signed : ℕ → ℤ
-signed a = cast_signed w64 a
-
-abbrev pub word : ℤ → ℕ
-word z = cast_unsigned w64 z
-
--- what a comparison gives
-abbrev pub truth : Bool → ℕ
-truth holds = cond holds 1 0
 
 abbrev pub difference : ℕ → ℕ → ℕ
 difference a b = (a + (2 ^ 64 - b)) % 2 ^ 64

@@ -1,7 +1,8 @@
 //! The values of operators on 64-bit words.
 
 ghost use Rattle.std.specs.Prelude.{◌≡◌, cond};
-ghost use Rattle.xc_tree_words.specs.Words.{is_uint, works_on_uint, truth, is_below, quotient_word, remainder_word, shifted_word, binary_word, unary_word};
+ghost use Rattle.xc_tree_words.specs.Words.{is_uint, works_on_uint, is_below, quotient_word, remainder_word, shifted_word, binary_word, unary_word};
+ghost use Rattle.xc_word.specs.Numbers.{truth};
 
 use xc_tree::{BinOp, Ty, UnOp};
 

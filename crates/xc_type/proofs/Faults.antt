@@ -13,7 +13,8 @@ use Rattle.xc_type_unit.specs.Functions.{bodies_of}
 use Rattle.xc_type_unit.specs.Texts.{main_in}
 use Rattle.xc_type.specs.declared.fault.CheckFault.{CheckFault}
 use Rattle.xc_type.specs.declared.fault.CheckFault.TheVariants.{NoMemory, Name, Typing, Count}
-use Rattle.xc_type.specs.Checked.{IsText, IsPlaced, IsFaultIn, IsFault, IsWhole, IsWholeOf, IsMade, IsTree, first_fault, scope_of}
+use Rattle.xc_type.specs.Checked.{IsText, IsPlaced, IsFaultIn, IsFault, IsMade, IsTree, first_fault, scope_of}
+use Rattle.xc_type.specs.InnerChecked.{IsWhole, IsWholeOf}
 
 -- the first fault, with its line and column
 pub first_told : (t : Text) (raw : Raw) (f : Fault) (e : CheckFault) → first_fault t raw ≡ Some f → IsPlaced t.source.now f e → IsFaultIn t raw e

@@ -26,7 +26,8 @@ use Rattle.xc_welltyped_claims.specs.Table.{with_known, tys_of, struct_tys}
 use Rattle.xc_welltyped_claims.proofs.Texts as texts
 use Rattle.xc_welltyped_unit.specs.Files.{AreFew, IsTyped}
 use Rattle.xc_welltyped_unit.proofs.Whole.{whole_typed}
-use Rattle.xc_type.specs.Checked.{known_types, struct_types, is_few, are_few, scope_of, IsWholeOf}
+use Rattle.xc_type.specs.Checked.{known_types, struct_types, scope_of}
+use Rattle.xc_type.specs.InnerChecked.{is_few, are_few, IsWholeOf}
 
 -- types of members -------------------------------------------------------------
 

@@ -6,7 +6,8 @@ use Rattle.std.proofs.lemmas.Option.{slice_get-get_or}
 use Rattle.std.proofs.lemmas.Grind.{common_steps}
 use Rattle.xc_type_rule.specs.declared.found.Member.{Member}
 use Rattle.xc_type_statements.proofs.Parts.{followed_first, followed_last, followed_assoc, made_none, made_more}
-use Rattle.xc_type.specs.Checked.{types_of, type_at}
+use Rattle.xc_type.specs.Checked.{types_of}
+use Rattle.xc_type.specs.InnerChecked.{type_at}
 
 -- the next member's type, and those behind it
 pub types_more : (ms : List Member) (k : ℕ) → k < length ms → types_of (drop k ms) ≡ type_at ms k ∷ types_of (drop (k + 1) ms)

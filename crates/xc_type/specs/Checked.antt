@@ -1,11 +1,9 @@
 -- What a text is checked to be: the least of its faults, the first place at which a count passes its limit, or its typed tree.
-use Rattle.std.specs.Prelude.{◌≡◌, ℕ, ◌^◌, Bool, ◌&&◌, nat_lt, List, length, map, Option, Some, None, option_and_then, slice_get}
-use Rattle.std.specs.List.{list_all}
+use Rattle.std.specs.Prelude.{◌≡◌, ℕ, List, map, Option, Some, None}
 use Rattle.xc_text_place.specs.Place.{IsPosition}
 use Rattle.xc_lex.specs.declared.token.Token.{Token}
 use Rattle.xc_raw.specs.declared.tree.Raw.{Raw, out-Raw}
 use Rattle.xc_tree.specs.declared.ty.Ty.{Ty}
-use Rattle.xc_tree.specs.declared.tree.Func.{Func}
 use Rattle.xc_tree.specs.declared.tree.Tree.{Tree}
 use Rattle.xc_type_rule.specs.declared.fault.Fault.{Fault}
 use Rattle.xc_type_rule.specs.declared.fault.Breach.TheVariants as breach
@@ -17,7 +15,6 @@ use Rattle.xc_type_literals.specs.Texts.{numbers_of, formats_of, all_taken}
 use Rattle.xc_type_expressions.specs.declared.text.Text.{Text}
 use Rattle.xc_type_statements.specs.Making.{all_made}
 use Rattle.xc_type_unit.specs.declared.scope.FileScope.{FileScope}
-use Rattle.xc_type_unit.specs.declared.text.Whole.{Whole}
 use Rattle.xc_type_unit.specs.Functions.{bodies_of}
 use Rattle.xc_type_unit.specs.Texts.{whole, main_in}
 use Rattle.xc_type.specs.declared.fault.CheckFault.{CheckFault}
@@ -60,23 +57,11 @@ IsFaultIn t raw e = IsFirst t raw e
 abbrev pub types_of : List Member → List (Option Ty)
 types_of ms = map (λ m. m.ty) ms
 
--- the type of the member with this number, if it is there and known
-abbrev pub type_at : List Member → ℕ → Option Ty
-type_at ms n = option_and_then (λ m. m.ty) (slice_get ms n)
-
 abbrev pub known_types : List Member → Option (List Ty)
 known_types ms = all_made (types_of ms)
 
 abbrev pub struct_types : List (List Member) → Option (List (List Ty))
 struct_types structs = all_made (map known_types structs)
-
--- a number of 32 bits counts so many
-abbrev pub is_few : ℕ → Bool
-is_few n = nat_lt n (2 ^ 32)
-
--- so many structs and formats, and these functions with their locals
-abbrev pub are_few : ℕ → List Func → ℕ → Bool
-are_few structs funcs formats = is_few structs && (is_few (length funcs) && (is_few formats && list_all (λ f. is_few (length f.locals)) funcs))
 
 -- the tree that declarations and definitions make
 pub record IsMade (s : FileScope) (main : Option ℕ) (formats : List (List ℕ)) (tree : Tree) : Type 0 where
@@ -92,15 +77,6 @@ pub record IsMade (s : FileScope) (main : Option ℕ) (formats : List (List ℕ)
 pub record IsFaultless (t : Text) (raw : Raw) : Type 0 where
   pub faultless : first_fault t raw ≡ None
   pub within : (scope_of t raw).env.over ≡ None
-
--- what its declarations make, and the number of its `main`
-pub record IsWhole (t : Text) (raw : Raw) (w : Whole) : Type 0 where
-  pub faultless : IsFaultless t raw
-  pub scope : w.scope ≡ scope_of t raw
-  pub main_is : w.main ≡ main_in t (bodies_of t (out-Raw raw).parts)
-
-abbrev pub IsWholeOf : List ℕ → List Token → Raw → Whole → Type 0
-IsWholeOf source tokens raw w = (t : Text) × IsText source tokens t × IsWhole t raw w
 
 -- the tree of a text without faults
 pub record IsTreeIn (t : Text) (raw : Raw) (tree : Tree) : Type 0 where

@@ -5,6 +5,7 @@ ghost use Rattle.std.specs.List.{All};
 ghost use Rattle.xc_lex.specs.Source.{IsSpelled};
 ghost use Rattle.xc_parse.specs.Texts.{words_of, Parsed};
 ghost use Rattle.xc_type.specs.Checked as spec;
+ghost use Rattle.xc_type.specs.InnerChecked as inner_spec;
 
 use crate::fault::{CheckFault, placed};
 use crate::made::made;
@@ -22,15 +23,17 @@ use xc_type_unit::{Whole, outer};
 #[tactic(auto, using(crate::proofs::Faults::fault_rules))]
 fn judged(alloc: Global, text: &Text, raw: &Raw) -> Result<Whole, CheckFault>
     requires { length text.now.source.now ≤ 2 ^ 20 }
-    ensures whole { IfOk result (spec.IsWhole text.now raw.now) }
+    ensures whole { IfOk result (inner_spec.IsWhole text.now raw.now) }
     ensures fault { IfErr result (spec.IsFaultIn text.now raw.now) }
 {
     let mut first = None;
     let whole = outer(alloc, text, raw, &mut first)?;
     if let Some(fault) = first {
+        drop(whole);
         return Err(placed(text.source, fault));
     }
     if let Some(at) = whole.scope.env.over() {
+        drop(whole);
         return Err(CheckFault::Count(position(text.source, at as usize)));
     }
     Ok(whole)
@@ -47,7 +50,7 @@ fn checked(
 ) -> Result<Whole, CheckFault>
     requires short { length source.now ≤ 2 ^ 20 }
     requires text { spec.IsText source.now tokens.now text.now }
-    ensures whole { IfOk result (spec.IsWholeOf source.now tokens.now raw.now) }
+    ensures whole { IfOk result (inner_spec.IsWholeOf source.now tokens.now raw.now) }
     ensures fault { IfErr result (spec.IsFault source.now tokens.now raw.now) }
 {
     judged(alloc, text, raw)

@@ -9,7 +9,7 @@ use xc_text_place::{Pos, position};
 use xc_type_rule::{Breach, Fault};
 
 /// Why a text has no typed tree: want of memory, or what it breaks first.
-#[derive(Clone, Copy, Debug, PartialEq, Eq)]
+#[derive(Clone, Copy)]
 pub enum CheckFault {
     NoMemory,
     /// A name that is not declared, or that is declared a second time.

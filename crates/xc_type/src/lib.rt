@@ -7,6 +7,3 @@ mod made;
 
 pub use checker::check;
 pub use fault::CheckFault;
-
-#[cfg(test)]
-mod tests;

@@ -4,19 +4,23 @@ ghost use Rattle.std.specs.Prelude.{◌≡◌, length, IfOk, IfErr};
 ghost use Rattle.std.specs.List.{list_all};
 ghost use Rattle.xc_welltyped_unit.specs.Files.{IsTyped};
 ghost use Rattle.xc_type.specs.Checked as spec;
+ghost use Rattle.xc_type.specs.InnerChecked as inner_spec;
 ghost use Rattle.xc_type.specs.declared.fault.CheckFault.TheVariants.{NoMemory};
 
 use crate::fault::CheckFault;
 use sqlite_items::Items;
 use std::alloc::{AllocError, Global};
+use xc_hold::kept;
+use xc_text_place::Span;
 use xc_tree::tree::Func;
 use xc_tree::{Tree, Ty};
+use xc_type_scopes::Env;
 use xc_type_statements::{followed, one};
 use xc_type_structs::Members;
 use xc_type_unit::{FileScope, Whole, copy_known};
 
 fn type_at(alloc: Global, members: &Members, at: usize) -> Result<Option<Ty>, AllocError>
-    ensures { IfOk result (λ r. r ≡ spec.type_at members.now at) }
+    ensures { IfOk result (λ r. r ≡ inner_spec.type_at members.now at) }
 {
     match members.at(at) {
         None => Ok(None),
@@ -49,21 +53,33 @@ fn struct_types(alloc: Global, structs: &[Members]) -> Result<Option<Items<Items
 }
 
 fn is_few(n: usize) -> bool
-    ensures { result ≡ spec.is_few n }
+    ensures { result ≡ inner_spec.is_few n }
 {
     n <= u32::MAX as usize
 }
 
 fn have_few_locals(funcs: &[Func]) -> bool
-    ensures { result ≡ list_all (λ f. spec.is_few (length f.locals)) funcs.now }
+    ensures { result ≡ list_all (λ f. inner_spec.is_few (length f.locals)) funcs.now }
 {
     funcs.iter().all(|func| is_few(func.locals.len()))
 }
 
 fn are_few(structs: usize, funcs: &[Func], formats: usize) -> bool
-    ensures { result ≡ spec.are_few structs funcs.now formats }
+    ensures { result ≡ inner_spec.are_few structs funcs.now formats }
 {
     is_few(structs) && is_few(funcs.len()) && is_few(formats) && have_few_locals(funcs)
+}
+
+/// The types of the structs, where all are known, and the notes.
+fn structs_and_notes(
+    alloc: Global,
+    env: &Env,
+) -> Result<(Option<Items<Items<Ty>>>, Items<Span>), AllocError>
+    ensures structs { IfOk result (λ r. r.0 ≡ spec.struct_types env.now.structs.members) }
+    ensures notes { IfOk result (λ r. r.1 ≡ env.now.notes) }
+{
+    let notes = Items::from_slice(alloc, env.notes())?;
+    kept(struct_types(alloc, env.structs().members()), notes)
 }
 
 /// The tree; want of memory also where 32 bits do not count its structs, functions, formats or locals.
@@ -85,21 +101,30 @@ pub(crate) fn made(
         defined: _,
         funcs,
     } = scope;
-    let main = main.ok_or(CheckFault::NoMemory)?;
-    let funcs = funcs.ok_or(CheckFault::NoMemory)?;
-    let structs = struct_types(alloc, env.structs().members())?.ok_or(CheckFault::NoMemory)?;
-    let notes = Items::from_slice(alloc, env.notes())?;
+    let copied = structs_and_notes(alloc, &env);
     let loops = env.loops();
-    if !are_few(structs.len(), funcs.as_slice(), formats.len()) {
-        return Err(CheckFault::NoMemory);
+    drop(env);
+    let others = (globals, funcs, formats);
+    let ((structs, notes), (globals, funcs, formats)) = kept(copied, others)?;
+    match main.zip(funcs.zip(structs)) {
+        None => {
+            drop((globals, formats, notes));
+            Err(CheckFault::NoMemory)
+        }
+        Some((main, (funcs, structs))) => {
+            if !are_few(structs.len(), funcs.as_slice(), formats.len()) {
+                drop((structs, globals, funcs, formats, notes));
+                return Err(CheckFault::NoMemory);
+            }
+            Ok(Tree {
+                structs,
+                globals,
+                funcs,
+                formats,
+                notes,
+                loops,
+                main,
+            })
+        }
     }
-    Ok(Tree {
-        structs,
-        globals,
-        funcs,
-        formats,
-        notes,
-        loops,
-        main,
-    })
 }

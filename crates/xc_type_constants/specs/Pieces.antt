@@ -1,6 +1,6 @@
 -- Integer constant expressions (C99 6.6, without `sizeof`), by the text alone. So what a constant may not hold is told
 -- whatever is known of the parts beside it.
-use Rattle.std.specs.Prelude.{ℕ, ◌==◌, Bool, true, false, ◌&&◌, ◌||◌, cond, not, is_some, List, [], ◌∷◌, ◌++◌, map, Option, Some, None, option_map, option_and_then, slice_get}
+use Rattle.std.specs.Prelude.{ℕ, ◌==◌, Bool, true, false, ◌&&◌, ◌||◌, cond, not, is_some, List, [], ◌∷◌, ◌++◌, Option, Some, None, option_map, option_and_then, slice_get}
 use Rattle.xc_text_place.specs.declared.Span.{Span}
 use Rattle.xc_tree.specs.declared.operator.BinOp.{BinOp}
 use Rattle.xc_tree.specs.declared.operator.BinOp.TheVariants as op
@@ -199,9 +199,6 @@ piece_by source ts numbers node _ _ = strange_piece (span_of ts node)
 -- each node of a text as a part of a constant
 unfoldable pub piece_in : List ℕ → List Token → List (Option Number) → Raw → Piece
 piece_in source ts numbers = by_nodes (λ node. piece_by source ts numbers node (out-Raw node).rule)
-
-abbrev pub pieces_in : List ℕ → List Token → List (Option Number) → List Raw → List Piece
-pieces_in source ts numbers nodes = map (piece_in source ts numbers) nodes
 
 -- wholes -----------------------------------------------------------------------
 

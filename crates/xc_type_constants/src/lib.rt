@@ -7,6 +7,3 @@ mod piece;
 
 pub use part::Part;
 pub use piece::constant;
-
-#[cfg(test)]
-mod tests;

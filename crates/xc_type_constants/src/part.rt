@@ -11,7 +11,7 @@ use xc_type_rule_operators::Logic;
 
 /// What is known of a part of a constant: whether its type is unsigned, and its value, if they are known; whether no constant
 /// may hold it whatever its parts are; and whether it and its parts are what a constant may hold.
-#[derive(Drop, Clone, Copy, Debug, PartialEq, Eq)]
+#[derive(Drop, Clone, Copy, PartialEq, Eq)]
 pub struct Part {
     pub unsigned: Option<bool>,
     pub value: Option<u64>,

@@ -6,6 +6,7 @@ ghost use Rattle.xc_raw.specs.declared.rule.Rule.TheVariants as rule;
 ghost use Rattle.xc_type_rule.specs.Least.{least_from, type_fault};
 ghost use Rattle.xc_raw_parts.specs.Spans.{span_of};
 ghost use Rattle.xc_type_constants.specs.Pieces as spec;
+ghost use Rattle.xc_type_constants.specs.InnerPieces as inner_spec;
 
 use crate::part::{
     Part, binary_part, cast_part, cond_part, goes_on, logic_part, strange, token_part, unary_part,
@@ -142,8 +143,8 @@ fn enclosed_part(
     asked: bool,
     first: &mut Option<Fault>,
 ) -> Result<Part, AllocError>
-    ensures part { IfOk result (λ r. r ≡ (spec.piece_by source.now tokens.now texts.now.constants.items node.now rule.Prim (spec.pieces_in source.now tokens.now texts.now.constants.items (out-Raw node.now).parts)).part) }
-    ensures first { OnOk result (first.new ≡ least_from first.old ((spec.piece_by source.now tokens.now texts.now.constants.items node.now rule.Prim (spec.pieces_in source.now tokens.now texts.now.constants.items (out-Raw node.now).parts)).faults asked)) }
+    ensures part { IfOk result (λ r. r ≡ (spec.piece_by source.now tokens.now texts.now.constants.items node.now rule.Prim (inner_spec.pieces_in source.now tokens.now texts.now.constants.items (out-Raw node.now).parts)).part) }
+    ensures first { OnOk result (first.new ≡ least_from first.old ((spec.piece_by source.now tokens.now texts.now.constants.items node.now rule.Prim (inner_spec.pieces_in source.now tokens.now texts.now.constants.items (out-Raw node.now).parts)).faults asked)) }
 {
     match node.parts.as_slice() {
         [] => Ok(of_token(tokens, texts, node, first)),
@@ -167,8 +168,8 @@ fn prefix_part(
     asked: bool,
     first: &mut Option<Fault>,
 ) -> Result<Part, AllocError>
-    ensures part { IfOk result (λ r. r ≡ (spec.piece_by source.now tokens.now texts.now.constants.items node.now rule.Unary (spec.pieces_in source.now tokens.now texts.now.constants.items (out-Raw node.now).parts)).part) }
-    ensures first { OnOk result (first.new ≡ least_from first.old ((spec.piece_by source.now tokens.now texts.now.constants.items node.now rule.Unary (spec.pieces_in source.now tokens.now texts.now.constants.items (out-Raw node.now).parts)).faults asked)) }
+    ensures part { IfOk result (λ r. r ≡ (spec.piece_by source.now tokens.now texts.now.constants.items node.now rule.Unary (inner_spec.pieces_in source.now tokens.now texts.now.constants.items (out-Raw node.now).parts)).part) }
+    ensures first { OnOk result (first.new ≡ least_from first.old ((spec.piece_by source.now tokens.now texts.now.constants.items node.now rule.Unary (inner_spec.pieces_in source.now tokens.now texts.now.constants.items (out-Raw node.now).parts)).faults asked)) }
 {
     let span = span_of(tokens, node);
     match node.parts.as_slice() {
@@ -196,8 +197,8 @@ fn operator_part(
     asked: bool,
     first: &mut Option<Fault>,
 ) -> Result<Part, AllocError>
-    ensures part { IfOk result (λ r. r ≡ (spec.binary_by source.now tokens.now node.now (spec.pieces_in source.now tokens.now texts.now.constants.items (out-Raw node.now).parts)).part) }
-    ensures first { OnOk result (first.new ≡ least_from first.old ((spec.binary_by source.now tokens.now node.now (spec.pieces_in source.now tokens.now texts.now.constants.items (out-Raw node.now).parts)).faults asked)) }
+    ensures part { IfOk result (λ r. r ≡ (spec.binary_by source.now tokens.now node.now (inner_spec.pieces_in source.now tokens.now texts.now.constants.items (out-Raw node.now).parts)).part) }
+    ensures first { OnOk result (first.new ≡ least_from first.old ((spec.binary_by source.now tokens.now node.now (inner_spec.pieces_in source.now tokens.now texts.now.constants.items (out-Raw node.now).parts)).faults asked)) }
 {
     let span = span_of(tokens, node);
     match node.parts.as_slice() {
@@ -237,8 +238,8 @@ fn chosen_part(
     asked: bool,
     first: &mut Option<Fault>,
 ) -> Result<Part, AllocError>
-    ensures part { IfOk result (λ r. r ≡ (spec.piece_by source.now tokens.now texts.now.constants.items node.now rule.Cond (spec.pieces_in source.now tokens.now texts.now.constants.items (out-Raw node.now).parts)).part) }
-    ensures first { OnOk result (first.new ≡ least_from first.old ((spec.piece_by source.now tokens.now texts.now.constants.items node.now rule.Cond (spec.pieces_in source.now tokens.now texts.now.constants.items (out-Raw node.now).parts)).faults asked)) }
+    ensures part { IfOk result (λ r. r ≡ (spec.piece_by source.now tokens.now texts.now.constants.items node.now rule.Cond (inner_spec.pieces_in source.now tokens.now texts.now.constants.items (out-Raw node.now).parts)).part) }
+    ensures first { OnOk result (first.new ≡ least_from first.old ((spec.piece_by source.now tokens.now texts.now.constants.items node.now rule.Cond (inner_spec.pieces_in source.now tokens.now texts.now.constants.items (out-Raw node.now).parts)).faults asked)) }
 {
     match node.parts.as_slice() {
         [test, a, b] => {
@@ -264,8 +265,8 @@ fn casted_part(
     asked: bool,
     first: &mut Option<Fault>,
 ) -> Result<Part, AllocError>
-    ensures part { IfOk result (λ r. r ≡ (spec.piece_by source.now tokens.now texts.now.constants.items node.now rule.Cast (spec.pieces_in source.now tokens.now texts.now.constants.items (out-Raw node.now).parts)).part) }
-    ensures first { OnOk result (first.new ≡ least_from first.old ((spec.piece_by source.now tokens.now texts.now.constants.items node.now rule.Cast (spec.pieces_in source.now tokens.now texts.now.constants.items (out-Raw node.now).parts)).faults asked)) }
+    ensures part { IfOk result (λ r. r ≡ (spec.piece_by source.now tokens.now texts.now.constants.items node.now rule.Cast (inner_spec.pieces_in source.now tokens.now texts.now.constants.items (out-Raw node.now).parts)).part) }
+    ensures first { OnOk result (first.new ≡ least_from first.old ((spec.piece_by source.now tokens.now texts.now.constants.items node.now rule.Cast (inner_spec.pieces_in source.now tokens.now texts.now.constants.items (out-Raw node.now).parts)).faults asked)) }
 {
     match node.parts.as_slice() {
         [specs, a] => {

@@ -14,16 +14,9 @@ use Rattle.xc_type_declarators.specs.declared.specifiers.Basic.TheVariants as ba
 use Rattle.xc_type_declarators.specs.declared.specifiers.Mark.{Mark}
 use Rattle.xc_type_declarators.specs.declared.specifiers.Mark.TheVariants as mark
 use Rattle.xc_type_declarators.specs.declared.specifiers.Specified.{Specified}
+use Rattle.xc_raw.specs.Kinds.{is_void, is_struct, is_future}
 
 -- words ------------------------------------------------------------------
-
-abbrev pub is_void : Word → Bool
-is_void word.Void = true
-is_void _ = false
-
-abbrev pub is_struct : Word → Bool
-is_struct word.Struct = true
-is_struct _ = false
 
 abbrev pub is_int : Word → Bool
 is_int (word.Specifier specifier.Int) = true
@@ -48,10 +41,6 @@ is_static _ = false
 abbrev pub is_sync : Word → Bool
 is_sync (word.Qualifier qualifier.Sync) = true
 is_sync _ = false
-
-abbrev pub is_future : Word → Bool
-is_future word.Future = true
-is_future _ = false
 
 -- how often a word of this kind stands in a list
 abbrev pub often : (Word → Bool) → List Word → ℕ

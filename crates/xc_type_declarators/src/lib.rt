@@ -10,6 +10,3 @@ pub use declarators::{
     pointer_typing, result_typing, scalar_typing, told,
 };
 pub use specifiers::specifier_type;
-
-#[cfg(test)]
-mod tests;

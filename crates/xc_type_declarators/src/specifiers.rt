@@ -2,6 +2,7 @@
 
 ghost use Rattle.std.specs.Prelude.{◌≡◌, IfOk};
 ghost use Rattle.xc_type_rule.specs.Least.{least_from};
+ghost use Rattle.xc_raw.specs.Kinds as kinds;
 ghost use Rattle.xc_type_declarators.specs.Specifiers as spec;
 
 use sqlite_items::Boxed;
@@ -35,13 +36,13 @@ pub(crate) struct Specified {
 }
 
 fn voids(words: &[Word]) -> usize
-    ensures { result ≡ spec.often spec.is_void words.now }
+    ensures { result ≡ spec.often kinds.is_void words.now }
 {
     words.iter().filter(|w| matches!(**w, Word::Void)).count()
 }
 
 fn structs(words: &[Word]) -> usize
-    ensures { result ≡ spec.often spec.is_struct words.now }
+    ensures { result ≡ spec.often kinds.is_struct words.now }
 {
     words.iter().filter(|w| matches!(**w, Word::Struct)).count()
 }
@@ -101,7 +102,7 @@ fn syncs(words: &[Word]) -> usize
 }
 
 fn futures(words: &[Word]) -> usize
-    ensures { result ≡ spec.often spec.is_future words.now }
+    ensures { result ≡ spec.often kinds.is_future words.now }
 {
     words.iter().filter(|w| matches!(**w, Word::Future)).count()
 }

@@ -1,3 +1,4 @@
 pub mod Few
+pub mod Outcomes
 pub mod Roles
 pub mod Shapes

@@ -16,7 +16,8 @@ use Rattle.xc_raw_parts.specs.Names.{struct_name}
 use Rattle.xc_type_scopes.specs.declared.env.Env.{Env}
 use Rattle.xc_type_scopes.specs.Env as env
 use Rattle.xc_type_scopes.specs.Judge.{Judged, Judge, Judges, give, and_then}
-use Rattle.xc_type_scopes.specs.Told.{Tells, anywhere}
+use Rattle.xc_type_scopes.specs.Told.{anywhere}
+use Rattle.xc_type_scopes.specs.InnerTold.{Tells}
 use Rattle.xc_type_scopes.proofs.Chains.{ok_then, ok_anywhere}
 use Rattle.xc_type_expressions.specs.declared.text.Text.{Text}
 use Rattle.xc_type_expressions.specs.declared.types.Tagged.{Tagged}

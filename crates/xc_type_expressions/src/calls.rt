@@ -2,7 +2,7 @@
 
 ghost use Rattle.std.specs.Prelude.{◌≡◌, map, option_and_then, IfOk};
 ghost use Rattle.xc_type_scopes.specs.Judge.{Judges};
-ghost use Rattle.xc_type_scopes.specs.Told.{Tells};
+ghost use Rattle.xc_type_scopes.specs.InnerTold.{Tells};
 ghost use Rattle.xc_type_names.specs.Numbered.{reserved_of};
 ghost use Rattle.xc_type_expressions.specs.Places.{alone_in};
 ghost use Rattle.xc_type_expressions.specs.Judged.{judged};
@@ -114,7 +114,12 @@ fn one_of(values: Vec<Found>) -> Option<Found>
 {
     let mut values = values;
     let last = values.pop()?;
-    if values.len() == 0 { Some(last) } else { None }
+    if values.len() == 0 {
+        Some(last)
+    } else {
+        drop(last);
+        None
+    }
 }
 
 // The two, if there are no others.
@@ -124,8 +129,13 @@ fn two_of(values: Vec<Found>) -> Option<(Found, Found)>
 {
     let mut values = values;
     let last = values.pop()?;
-    let one = one_of(values)?;
-    Some((one, last))
+    match one_of(values) {
+        Some(one) => Some((one, last)),
+        None => {
+            drop(last);
+            None
+        }
+    }
 }
 
 #[tactic(auto, using(xc_type_rule::proofs::Least::least_rules))]

@@ -17,6 +17,7 @@ use crate::structs::{
 use crate::text::Text;
 use crate::types::{Declared, Tagged};
 use std::alloc::{AllocError, Global};
+use xc_hold::kept;
 use xc_raw::{Raw, Rule};
 use xc_raw_parts::{declarator_name, span_of, specifier_words, star_words, struct_name};
 use xc_tree::Ty;
@@ -131,13 +132,13 @@ fn part_found(
         [a, b] => {
             let at = span_of(text.tokens, a);
             let x = operand_found(alloc, text, env, a, takes_value(text, node), first)?;
-            let y = value(alloc, text, env, b, first)?;
+            let (y, x) = kept(value(alloc, text, env, b, first), x)?;
             with_two(alloc, text, env, node, at, x, y, first)
         }
         [a, b, c] => {
             let x = value(alloc, text, env, a, first)?;
-            let y = value(alloc, text, env, b, first)?;
-            let z = value(alloc, text, env, c, first)?;
+            let (y, x) = kept(value(alloc, text, env, b, first), x)?;
+            let (z, (x, y)) = kept(value(alloc, text, env, c, first), (x, y))?;
             with_three(alloc, text, node, x, y, z, first)
         }
         _ => Ok(unknown_place()),
@@ -159,7 +160,7 @@ fn cast_found(
         [specs, a] => {
             let has_stars = has_stars(alloc, text, node, specs)?;
             let ty = specified(alloc, text, env, specs, false, first)?;
-            let v = value(alloc, text, env, a, first)?;
+            let (v, ty) = kept(value(alloc, text, env, a, first), ty)?;
             cast_to(alloc, span_of(text.tokens, node), has_stars, ty, v, first)
         }
         _ => Ok(unknown_place()),

@@ -16,6 +16,3 @@ pub use places::{arrowed, dotted, named};
 pub use structs::note_name_unless;
 pub use text::Text;
 pub use types::{Declared, Tagged};
-
-#[cfg(test)]
-mod tests;

@@ -3,7 +3,7 @@
 ghost use Rattle.std.specs.Prelude.{◌≡◌, IfOk};
 ghost use Rattle.xc_type_rule.specs.Making as making;
 ghost use Rattle.xc_type_scopes.specs.Judge.{Judges};
-ghost use Rattle.xc_type_scopes.specs.Told.{Tells};
+ghost use Rattle.xc_type_scopes.specs.InnerTold.{Tells};
 ghost use Rattle.xc_type_expressions.specs.Operations as spec;
 
 use std::alloc::{AllocError, Global};

@@ -3,7 +3,7 @@
 ghost use Rattle.std.specs.Prelude.{◌≡◌, IfOk};
 ghost use Rattle.xc_raw.specs.declared.tree.Raw.{out-Raw};
 ghost use Rattle.xc_type_scopes.specs.Judge.{Judges};
-ghost use Rattle.xc_type_scopes.specs.Told.{Tells};
+ghost use Rattle.xc_type_scopes.specs.InnerTold.{Tells};
 ghost use Rattle.xc_raw_parts.specs.Words.{star_words};
 ghost use Rattle.xc_type_expressions.specs.Operations as operations;
 ghost use Rattle.xc_type_expressions.specs.Judged as spec;

@@ -3,7 +3,7 @@
 ghost use Rattle.std.specs.Prelude.{◌≡◌, IfOk};
 ghost use Rattle.std.specs.Option.{option_copied};
 ghost use Rattle.xc_type_scopes.specs.Judge.{Judges};
-ghost use Rattle.xc_type_scopes.specs.Told.{Tells};
+ghost use Rattle.xc_type_scopes.specs.InnerTold.{Tells};
 ghost use Rattle.xc_type_expressions.specs.Places as spec;
 
 use crate::text::Text;

@@ -106,7 +106,10 @@ pub(crate) fn with_declared(
 {
     let Declared { name, at, ty } = declared;
     match name {
-        None => Ok(()),
+        None => {
+            drop(ty);
+            Ok(())
+        }
         Some(name) => {
             note_name_unless(env.layout().is_new(name), at, first);
             env.add_member(alloc, name, ty)

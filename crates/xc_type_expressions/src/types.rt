@@ -4,7 +4,7 @@ use xc_text_place::Span;
 use xc_tree::Ty;
 
 /// The specifier of a struct: the struct's number, and whether it has no more cells than an object may have.
-#[derive(Drop, Clone, Copy, Debug, PartialEq, Eq)]
+#[derive(Clone, Copy)]
 pub struct Tagged {
     pub number: u32,
     pub fits: bool,

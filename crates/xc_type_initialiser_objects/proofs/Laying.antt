@@ -5,7 +5,8 @@ use Rattle.std.proofs.lemmas.List.{append-nil, drop_more, replicate_more}
 use Rattle.std.proofs.lemmas.Bool.Decides.{Decides-eqb}
 use Rattle.std.proofs.lemmas.Grind.{common_steps, fold-append}
 use Rattle.xc_type_initialiser_objects.specs.declared.cells.Laid.{Laid}
-use Rattle.xc_type_initialiser_objects.specs.Cells.{Cell, fresh, is_fresh, in_front, trimmed, filled_from, with_fresh, with_rest, with_cell, no_cells}
+use Rattle.xc_type_initialiser_objects.specs.Cells.{Cell, fresh, is_fresh, in_front, trimmed, filled_from}
+use Rattle.xc_type_initialiser_objects.specs.InnerCells.{with_fresh, with_rest, with_cell, no_cells}
 
 -- lists ----------------------------------------------------------------------
 

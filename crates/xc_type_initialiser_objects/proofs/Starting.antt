@@ -10,7 +10,8 @@ use Rattle.xc_tree.specs.Lists.{joined}
 use Rattle.xc_tree.specs.Types.{plain_at, is_plain}
 use Rattle.xc_type_rule.specs.declared.found.Member.{Member}
 use Rattle.xc_type_initialiser_objects.specs.declared.cells.Laid.{Laid}
-use Rattle.xc_type_initialiser_objects.specs.Cells.{Cell, fresh, start_step, start_of, member_start, struct_start, starts_within, with_fresh, with_cell}
+use Rattle.xc_type_initialiser_objects.specs.Cells.{Cell, fresh, start_step, start_of, member_start, struct_start, starts_within}
+use Rattle.xc_type_initialiser_objects.specs.InnerCells.{with_fresh, with_cell}
 use Rattle.xc_type_initialiser_objects.proofs.Laying.{laid_all, laid_fresh, one_fresh}
 
 -- elements ---------------------------------------------------------------------

@@ -6,7 +6,6 @@ use Rattle.xc_tree.specs.declared.ty.Ty.TheFolds.{fold-Ty}
 use Rattle.xc_tree.specs.Lists.{joined}
 use Rattle.xc_type_rule.specs.declared.found.Member.{Member}
 use Rattle.xc_type_structs.specs.declared.structs.Structs.{Structs}
-use Rattle.xc_type_initialiser_objects.specs.declared.cells.Laid.{Laid}
 
 -- a cell is a word, and whether it is full
 abbrev pub Cell : Type 0
@@ -74,18 +73,3 @@ starts_within (suc deep) members = map (struct_start (starts_within deep members
 -- the first cells of an object of this type
 unfoldable pub started : Structs → Ty → List Cell
 started s ty = trimmed (start_of (starts_within (length s.members) s.members) ty)
-
--- how code keeps them --------------------------------------------------------
-
-abbrev pub with_fresh : Laid → ℕ → Laid
-with_fresh l n = record { first = l.first; rest = l.rest + n }
-
-abbrev pub with_rest : Laid → List Cell
-with_rest l = l.first ++ replicate l.rest fresh
-
--- cells that are full and 0 are counted until another one stands behind them
-unfoldable pub with_cell : Laid → Cell → Laid
-with_cell l c = cond (is_fresh c) (with_fresh l 1) (record { first = with_rest l ++ c ∷ []; rest = 0 })
-
-abbrev pub no_cells : Laid
-no_cells = record { first = []; rest = 0 }

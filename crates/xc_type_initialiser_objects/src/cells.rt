@@ -2,6 +2,7 @@
 
 ghost use Rattle.std.specs.Prelude.{◌≡◌, ◌++◌, replicate, IfOk, OnOk};
 ghost use Rattle.xc_type_initialiser_objects.specs.Cells as spec;
+ghost use Rattle.xc_type_initialiser_objects.specs.InnerCells as inner_spec;
 
 use sqlite_items::Items;
 use std::alloc::{AllocError, Global};
@@ -15,7 +16,7 @@ pub struct Laid {
 
 /// No cells.
 pub(crate) fn no_cells(alloc: Global) -> Laid
-    ensures { result ≡ spec.no_cells }
+    ensures { result ≡ inner_spec.no_cells }
 {
     Laid {
         first: Items::new(alloc),
@@ -25,7 +26,7 @@ pub(crate) fn no_cells(alloc: Global) -> Laid
 
 /// So many cells more that are full and 0, which take no memory yet.
 pub(crate) fn skip(laid: &mut Laid, count: u64) -> Result<(), AllocError>
-    ensures { OnOk result (laid.new ≡ spec.with_fresh laid.old count) }
+    ensures { OnOk result (laid.new ≡ inner_spec.with_fresh laid.old count) }
 {
     if u64::MAX - laid.rest < count {
         return Err(AllocError);
@@ -44,9 +45,9 @@ fn push_rest(first: &mut Items<(u64, bool)>, count: u64) -> Result<(), AllocErro
 }
 
 /// One more cell.
-#[tactic(auto, unfolding(crate::specs::Cells::with_cell))]
+#[tactic(auto, unfolding(crate::specs::InnerCells::with_cell))]
 pub(crate) fn put(laid: &mut Laid, word: u64, full: bool) -> Result<(), AllocError>
-    ensures { OnOk result (laid.new ≡ spec.with_cell laid.old (word, full)) }
+    ensures { OnOk result (laid.new ≡ inner_spec.with_cell laid.old (word, full)) }
 {
     if full && word == 0 {
         return skip(laid, 1);

@@ -1,6 +1,6 @@
 //! What initialisers give.
 
-ghost use Rattle.std.specs.Prelude.{◌≡◌, IfOk, OnOk};
+ghost use Rattle.std.specs.Prelude.{◌≡◌, cond, IfOk, OnOk};
 ghost use Rattle.std.specs.Option.{option_copied};
 ghost use Rattle.xc_type_rule.specs.Least.{least_from, fault_unless};
 ghost use Rattle.xc_type_initialiser_objects.specs.Inits as spec;
@@ -62,6 +62,17 @@ pub fn note_type_unless(kept: bool, span: Span, first: &mut Option<Fault>)
     }
 }
 
+fn made_if(fits: bool, made: Option<Expr>) -> Option<Expr>
+    ensures { result ≡ cond fits made None }
+{
+    if fits {
+        made
+    } else {
+        drop(made);
+        None
+    }
+}
+
 #[tactic(auto, using(xc_type_rule::proofs::Least::least_rules))]
 fn base_made(
     alloc: Global,
@@ -75,14 +86,16 @@ fn base_made(
 {
     match base {
         None => {
+            drop(value);
             note_type(first, span);
             Ok(None)
         }
         Some(ty) => {
-            let value = given(alloc, ty, value)?;
-            let fits = may_fit(ty, &value.known);
+            let Found { known, made } = given(alloc, ty, value)?;
+            let fits = may_fit(ty, &known);
+            drop(known);
             note_type_unless(fits, span, first);
-            if fits { Ok(value.made) } else { Ok(None) }
+            Ok(made_if(fits, made))
         }
     }
 }
@@ -102,6 +115,7 @@ pub fn value_made(
     match ty {
         None => {
             note_type_unless(may_be_plain(&value.known), span, first);
+            drop(value);
             Ok(None)
         }
         Some(ty) => base_made(alloc, span, base_of(ty), value, first),

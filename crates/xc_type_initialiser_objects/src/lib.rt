@@ -14,6 +14,3 @@ pub use inits::{Inits, note_type_unless, value_made};
 pub use starts::{MOST_LEVELS, started};
 pub use target::{Part, Target, may_be_braced, part_of};
 pub use word::{global_words, number_made, word_of};
-
-#[cfg(test)]
-mod tests;

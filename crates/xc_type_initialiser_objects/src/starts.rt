@@ -3,6 +3,7 @@
 ghost use Rattle.std.specs.Prelude.{◌≡◌, [], fold, replicate, unwrap_or, slice_get, IfOk, OnOk};
 ghost use Rattle.xc_tree.specs.Lists.{joined};
 ghost use Rattle.xc_type_initialiser_objects.specs.Cells as spec;
+ghost use Rattle.xc_type_initialiser_objects.specs.InnerCells as inner_spec;
 
 use crate::cells::{Laid, no_cells, put, skip};
 use sqlite_items::Items;
@@ -25,7 +26,7 @@ fn lay(
     room: u32,
     laid: &mut Laid,
 ) -> Result<(), AllocError>
-    ensures { OnOk result (laid.new ≡ fold spec.with_cell laid.old (spec.start_of (spec.starts_within deep structs.now.members) ty.now)) }
+    ensures { OnOk result (laid.new ≡ fold inner_spec.with_cell laid.old (spec.start_of (spec.starts_within deep structs.now.members) ty.now)) }
 {
     if room == 0 {
         return Err(AllocError);
@@ -49,7 +50,7 @@ fn lay_array(
     room: u32,
     laid: &mut Laid,
 ) -> Result<(), AllocError>
-    ensures { OnOk result (laid.new ≡ fold spec.with_cell laid.old (joined (replicate n (spec.start_of (spec.starts_within deep structs.now.members) of.now)))) }
+    ensures { OnOk result (laid.new ≡ fold inner_spec.with_cell laid.old (joined (replicate n (spec.start_of (spec.starts_within deep structs.now.members) of.now)))) }
 {
     if is_plain(of) {
         return Ok(skip(laid, u64::from(n))?);
@@ -69,7 +70,7 @@ fn lay_struct(
     room: u32,
     laid: &mut Laid,
 ) -> Result<(), AllocError>
-    ensures { OnOk result (laid.new ≡ fold spec.with_cell laid.old (unwrap_or (slice_get (spec.starts_within deep structs.now.members) number) [])) }
+    ensures { OnOk result (laid.new ≡ fold inner_spec.with_cell laid.old (unwrap_or (slice_get (spec.starts_within deep structs.now.members) number) [])) }
 {
     if deep == 0 {
         return Ok(());
@@ -89,7 +90,7 @@ fn lay_members(
     room: u32,
     laid: &mut Laid,
 ) -> Result<(), AllocError>
-    ensures { OnOk result (laid.new ≡ fold spec.with_cell laid.old (spec.struct_start (spec.starts_within deep structs.now.members) members.now)) }
+    ensures { OnOk result (laid.new ≡ fold inner_spec.with_cell laid.old (spec.struct_start (spec.starts_within deep structs.now.members) members.now)) }
 {
     'members: for k in 0..members.len() {
         if let Some(member) = members.at(k) {
@@ -108,7 +109,7 @@ fn lay_typed(
     room: u32,
     laid: &mut Laid,
 ) -> Result<(), AllocError>
-    ensures { OnOk result (laid.new ≡ fold spec.with_cell laid.old (spec.typed_start (spec.starts_within deep structs.now.members) ty.now)) }
+    ensures { OnOk result (laid.new ≡ fold inner_spec.with_cell laid.old (spec.typed_start (spec.starts_within deep structs.now.members) ty.now)) }
 {
     match ty {
         None => skip(laid, 1),

@@ -13,15 +13,18 @@ use xc_tree::{Expr, ExprKind, Ty};
 pub fn number_made(value: Option<u64>, made: Option<Expr>) -> Option<Expr>
     ensures { result ≡ spec.number_made value made }
 {
-    let (Some(n), Some(e)) = (value, made) else {
-        return None;
-    };
-    let Expr { ty, span, kind: _ } = e;
-    Some(Expr {
-        ty,
-        span,
-        kind: ExprKind::Const(n),
-    })
+    match value.zip(made) {
+        None => None,
+        Some((n, e)) => {
+            let Expr { ty, span, kind } = e;
+            drop(kind);
+            Some(Expr {
+                ty,
+                span,
+                kind: ExprKind::Const(n),
+            })
+        }
+    }
 }
 
 fn pointer_to(g: u32) -> u64

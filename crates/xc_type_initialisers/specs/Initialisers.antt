@@ -1,5 +1,5 @@
 -- What an initialiser gives an object of a type (C99 6.7.8).
-use Rattle.std.specs.Prelude.{◌≡◌, ℕ, ◌+◌, Bool, true, false, List, [], ◌∷◌, Option}
+use Rattle.std.specs.Prelude.{ℕ, ◌+◌, Bool, true, false, List, [], ◌∷◌, Option}
 use Rattle.xc_text_place.specs.declared.Span.{Span}
 use Rattle.xc_tree.specs.declared.ty.Ty.{Ty}
 use Rattle.xc_tree.specs.declared.expr.Expr.{Expr}
@@ -7,16 +7,14 @@ use Rattle.xc_raw.specs.declared.rule.Rule.{Rule}
 use Rattle.xc_raw.specs.declared.rule.Rule.TheVariants as rule
 use Rattle.xc_raw.specs.declared.tree.Raw.{Raw, out-Raw}
 use Rattle.xc_raw_parts.specs.Nodes.{by_nodes}
-use Rattle.xc_type_rule.specs.declared.fault.Fault.{Fault}
 use Rattle.xc_type_rule.specs.declared.found.Found.{Found}
-use Rattle.xc_type_rule.specs.Least.{least_from, fault_unless}
+use Rattle.xc_type_rule.specs.Least.{fault_unless}
 use Rattle.xc_type_initialiser_objects.specs.declared.target.Target.{Target}
 use Rattle.xc_type_initialiser_objects.specs.declared.target.Part.{Part}
 use Rattle.xc_type_initialiser_objects.specs.declared.inits.Inits.{Inits}
 use Rattle.xc_type_initialiser_objects.specs.Parts.{target, part_of, may_be_braced}
 use Rattle.xc_type_initialiser_objects.specs.Inits.{nothing, one_init, and_also, if_whole, value_made, value_faults}
 use Rattle.xc_type_initialiser_objects.specs.Words.{global_words}
-use Rattle.xc_type_scopes.specs.declared.env.Env.{Env}
 use Rattle.xc_type_scopes.specs.Judge.{Judge, give, and_then}
 use Rattle.xc_type_expressions.specs.declared.text.Text.{Text}
 use Rattle.xc_type_expressions.specs.Roles.{value}
@@ -89,9 +87,3 @@ local_inits t node ty = and_then (whole_object t node false ty) (λ is. give (if
 -- the words that a global of this type begins with, likewise
 unfoldable pub global_inits : Text → Raw → Option Ty → Judge (Option (List (ℕ × ℕ)))
 global_inits t node ty = and_then (whole_object t node true ty) (λ is. give (global_words is) [])
-
--- code ---------------------------------------------------------------------
-
--- what a call says that judges initialisers: it adds what they give, and leaves what is declared behind them and the least fault
-abbrev pub Gives : Judge Inits → Env → Env → Option Fault → Option Fault → Inits → Inits → Type 0
-Gives j before behind was now old new = (new ≡ and_also old (j before).part) × (behind ≡ (j before).env) × (now ≡ least_from was (j before).faults)

@@ -1,3 +1,4 @@
 pub mod Forms
 pub mod Lasting
 pub mod Initialisers
+pub mod InnerInitialisers

@@ -11,7 +11,7 @@ use xc_raw_parts::{Prefix, prefix_operator};
 use xc_type_expressions::Text;
 
 /// Whether an expression is a name, and whether it is a name or `&` of one.
-#[derive(Drop, Clone, Copy, Debug, PartialEq, Eq)]
+#[derive(Clone, Copy)]
 pub(crate) struct Form {
     pub(crate) name: bool,
     pub(crate) pointer: bool,

@@ -5,6 +5,7 @@ ghost use Rattle.xc_raw.specs.declared.tree.Raw.{out-Raw};
 ghost use Rattle.xc_raw.specs.declared.rule.Rule.TheVariants as rule;
 ghost use Rattle.xc_type_scopes.specs.Judge.{Judges};
 ghost use Rattle.xc_type_initialisers.specs.Initialisers as spec;
+ghost use Rattle.xc_type_initialisers.specs.InnerInitialisers as inner_spec;
 
 use crate::lasting::{held, lasting};
 use sqlite_items::Items;
@@ -54,7 +55,7 @@ fn valued(
     inits: &mut Inits,
     first: &mut Option<Fault>,
 ) -> Result<(), AllocError>
-    ensures { OnOk result (spec.Gives (spec.valued text.now node.now outermost to.now) env.old env.new first.old first.new inits.old inits.new) }
+    ensures { OnOk result (inner_spec.Gives (spec.valued text.now node.now outermost to.now) env.old env.new first.old first.new inits.old inits.new) }
 {
     let v = value(alloc, text, env, node, first)?;
     let made = value_made(alloc, span_of(text.tokens, node), &to.ty, v, first)?;
@@ -77,7 +78,7 @@ fn given(
     inits: &mut Inits,
     first: &mut Option<Fault>,
 ) -> Result<(), AllocError>
-    ensures { OnOk result (spec.Gives ((spec.initialiser text.now node.now).given outermost to.now) env.old env.new first.old first.new inits.old inits.new) }
+    ensures { OnOk result (inner_spec.Gives ((spec.initialiser text.now node.now).given outermost to.now) env.old env.new first.old first.new inits.old inits.new) }
 {
     match node.rule {
         Rule::Initialisers => braced(alloc, text, env, node, outermost, to, inits, first),
@@ -98,7 +99,7 @@ fn braced(
     inits: &mut Inits,
     first: &mut Option<Fault>,
 ) -> Result<(), AllocError>
-    ensures { OnOk result (spec.Gives (spec.given_by text.now node.now rule.Initialisers (map (spec.initialiser text.now) (out-Raw node.now).parts) outermost to.now) env.old env.new first.old first.new inits.old inits.new) }
+    ensures { OnOk result (inner_spec.Gives (spec.given_by text.now node.now rule.Initialisers (map (spec.initialiser text.now) (out-Raw node.now).parts) outermost to.now) env.old env.new first.old first.new inits.old inits.new) }
 {
     in_turn(
         alloc,
@@ -127,7 +128,7 @@ fn in_turn(
     inits: &mut Inits,
     first: &mut Option<Fault>,
 ) -> Result<(), AllocError>
-    ensures { OnOk result (spec.Gives (spec.in_turn outermost to.now 0 (map (spec.initialiser text.now) nodes.now)) env.old env.new first.old first.new inits.old inits.new) }
+    ensures { OnOk result (inner_spec.Gives (spec.in_turn outermost to.now 0 (map (spec.initialiser text.now) nodes.now)) env.old env.new first.old first.new inits.old inits.new) }
 {
     'nodes: for (k, node) in nodes.iter().enumerate() {
         one_of(alloc, text, env, node, outermost, to, k, inits, first)?;
@@ -149,10 +150,12 @@ fn one_of(
     inits: &mut Inits,
     first: &mut Option<Fault>,
 ) -> Result<(), AllocError>
-    ensures { OnOk result (spec.Gives (spec.one_of outermost to.now k (spec.initialiser text.now node.now)) env.old env.new first.old first.new inits.old inits.new) }
+    ensures { OnOk result (inner_spec.Gives (spec.one_of outermost to.now k (spec.initialiser text.now node.now)) env.old env.new first.old first.new inits.old inits.new) }
 {
     let Part { target, there } = part_of(alloc, env.structs(), to, k)?;
-    given(alloc, text, env, node, outermost, &target, inits, first)?;
+    let outcome = given(alloc, text, env, node, outermost, &target, inits, first);
+    drop(target);
+    outcome?;
     note_type_unless(there, span_of(text.tokens, node), first);
     Ok(())
 }
@@ -173,7 +176,9 @@ fn whole_object(
 {
     let mut inits = Inits::new(alloc);
     let to = Target { ty, off: 0 };
-    given(alloc, text, env, node, outermost, &to, &mut inits, first)?;
+    let outcome = given(alloc, text, env, node, outermost, &to, &mut inits, first);
+    drop(to);
+    outcome?;
     Ok(inits)
 }
 

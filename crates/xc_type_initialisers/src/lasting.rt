@@ -11,6 +11,7 @@ ghost use Rattle.xc_type_initialisers.specs.Lasting as spec;
 
 use crate::forms::form_of;
 use std::alloc::{AllocError, Global};
+use xc_hold::kept;
 use xc_raw::Raw;
 use xc_raw_parts::span_of;
 use xc_tree::{Expr, Ty};
@@ -72,7 +73,8 @@ fn number(
     ensures made { IfOk result (λ r. r ≡ words.number_made (constant_value (judged text.now node.now).constant) made) }
     ensures first { OnOk result (first.new ≡ least_from first.old (constant_faults (judged text.now node.now).constant)) }
 {
-    let value = constant(alloc, text.source, text.tokens, text.texts, node, first)?;
+    let value = constant(alloc, text.source, text.tokens, text.texts, node, first);
+    let (value, made) = kept(value, made)?;
     Ok(number_made(value, made))
 }
 
@@ -110,7 +112,8 @@ pub(crate) fn lasting(
             if is_number(to) {
                 return Ok(number(alloc, text, node, made, first)?);
             }
-            note_pointer(alloc, text, node, &made, first)?;
+            let noted = note_pointer(alloc, text, node, &made, first);
+            let (_, made) = kept(noted, made)?;
             Ok(made)
         }
     }

@@ -7,6 +7,3 @@ mod initialisers;
 mod lasting;
 
 pub use initialisers::{global_inits, local_inits};
-
-#[cfg(test)]
-mod tests;

@@ -4,7 +4,7 @@ use Rattle.std.specs.Prelude.{fold}
 use Rattle.std.specs.List.{list_any}
 use Rattle.indexmap.specs.IndexSet.{insert_key}
 use Rattle.xc_lex.specs.declared.token.Token.{Token}
-use Rattle.xc_type_literals.specs.Constants.{stretch_eq}
+use Rattle.xc_text_place.specs.Stretches.{stretch_eq}
 use Rattle.xc_type_literals.specs.Texts.{is_text, stretch, with_text, stretches}
 
 known_most : (ks : List (ℕ × ℕ)) (ts : List Token) → length (fold with_text ks ts) ≤ length ks + length ts

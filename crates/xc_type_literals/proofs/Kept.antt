@@ -5,7 +5,8 @@ use Rattle.std.specs.Map.{lookup}
 use Rattle.std.proofs.lemmas.Bool.{eqb-true}
 use Rattle.xc_lex.specs.declared.number.Number.{Number}
 use Rattle.xc_lex.specs.Numbers.{number_of}
-use Rattle.xc_type_literals.specs.Constants.{stretch_eq, AreConstants}
+use Rattle.xc_text_place.specs.Stretches.{stretch_eq}
+use Rattle.xc_type_literals.specs.InnerConstants.{AreConstants}
 
 both_true : (b c : Bool) → (b && c) ≡ true → (b ≡ true) × (c ≡ true)
 both_true true c e = (refl, e)

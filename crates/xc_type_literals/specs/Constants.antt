@@ -1,6 +1,5 @@
 -- The integer constants among the tokens of a text.
-use Rattle.std.specs.Prelude.{◌≡◌, ℕ, ◌&&◌, nat_eq, Bool, true, false, if◌then◌else◌, List, map, Option, Some, None, option_and_then, slice_get, slice_range}
-use Rattle.std.specs.Map.{lookup}
+use Rattle.std.specs.Prelude.{ℕ, ◌&&◌, nat_eq, Bool, true, false, if◌then◌else◌, List, map, Option, None, option_and_then, slice_get, slice_range}
 use Rattle.xc_lex.specs.declared.token.Token.{Token}
 use Rattle.xc_lex.specs.declared.token.TokenKind.{TokenKind}
 use Rattle.xc_lex.specs.declared.token.TokenKind.TheVariants as kind
@@ -21,11 +20,3 @@ constants_of source ts = map (number_in source) ts
 
 abbrev pub constant_at : List (Option Number) → ℕ → Option Number
 constant_at numbers n = option_and_then (λ k. k) (slice_get numbers n)
-
--- where a token stands in the source, from a byte up to another
-abbrev pub stretch_eq : ℕ × ℕ → ℕ × ℕ → Bool
-stretch_eq p q = nat_eq p.0 q.0 && nat_eq p.1 q.1
-
--- each of these stretches has the constant that it spells
-abbrev pub AreConstants : List ℕ → List ((ℕ × ℕ) × Option Number) → Type 0
-AreConstants source known = (p : ℕ × ℕ) (number : Option Number) → lookup (stretch_eq p) known ≡ Some number → number ≡ number_of (slice_range source p.0 p.1)

@@ -5,7 +5,7 @@ use Rattle.xc_lex.specs.declared.token.Token.{Token}
 use Rattle.xc_lex.specs.declared.token.TokenKind.{TokenKind}
 use Rattle.xc_lex.specs.declared.token.TokenKind.TheVariants as kind
 use Rattle.xc_text_format.specs.Pieces.{pieces_of, conversions_of}
-use Rattle.xc_type_literals.specs.Constants.{stretch_eq}
+use Rattle.xc_text_place.specs.Stretches.{stretch_eq}
 use Rattle.xc_type_literals.specs.declared.texts.Literal.{Literal}
 
 abbrev pub is_text_kind : TokenKind → Bool

@@ -6,6 +6,3 @@ mod numbers;
 mod texts;
 
 pub use texts::{Literal, Texts, texts_of};
-
-#[cfg(test)]
-mod tests;

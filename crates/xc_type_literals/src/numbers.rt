@@ -3,6 +3,7 @@
 ghost use Rattle.std.specs.Prelude.{◌≡◌, map, IfOk, OnOk, slice_range};
 ghost use Rattle.xc_lex.specs.Numbers.{number_of};
 ghost use Rattle.xc_type_literals.specs.Constants as spec;
+ghost use Rattle.xc_type_literals.specs.InnerConstants as inner_spec;
 
 use indexmap::IndexMap;
 use std::alloc::{AllocError, Global};
@@ -16,9 +17,9 @@ fn read_once(
     source: &[u8],
     at: Span,
 ) -> Result<Option<Number>, AllocError>
-    requires { spec.AreConstants source.now known.old.entries }
+    requires { inner_spec.AreConstants source.now known.old.entries }
     ensures number { IfOk result (λ n. n ≡ number_of (slice_range source.now at.start at.end)) }
-    ensures known { OnOk result (spec.AreConstants source.now known.new.entries) }
+    ensures known { OnOk result (inner_spec.AreConstants source.now known.new.entries) }
 {
     let stretch = (at.start, at.end);
     match known.get(&stretch) {
@@ -36,9 +37,9 @@ fn number_in(
     source: &[u8],
     token: Token,
 ) -> Result<Option<Number>, AllocError>
-    requires { spec.AreConstants source.now known.old.entries }
+    requires { inner_spec.AreConstants source.now known.old.entries }
     ensures number { IfOk result (λ n. n ≡ spec.number_in source.now token) }
-    ensures known { OnOk result (spec.AreConstants source.now known.new.entries) }
+    ensures known { OnOk result (inner_spec.AreConstants source.now known.new.entries) }
 {
     match token.kind {
         TokenKind::Number => Ok(read_once(known, source, token.text)?),

@@ -25,7 +25,7 @@ pub struct Texts {
 }
 
 /// A string literal: its number, and how many values it takes as a format, or none where it is no format.
-#[derive(Clone, Copy, Debug, PartialEq, Eq)]
+#[derive(Clone, Copy)]
 pub struct Literal {
     pub number: u32,
     pub takes: Option<usize>,

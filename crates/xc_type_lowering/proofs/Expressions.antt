@@ -21,7 +21,8 @@ use Rattle.xc_tree.specs.Kinds.{same_write, write_kind}
 use Rattle.xc_tree.specs.Formats.{integers_taken}
 use Rattle.xc_tree.specs.Typed.{Context, Part, Row, kind_step, part_of, expr_ok, value_ok, part_ok, parts, named, operands, are_values, is_value, rule, is_variable_of, leads_to, addressed_type, mixed_under, args_fit, call_ok, print_ok, is_place, update_ok, sort_of}
 use Rattle.xc_tree.proofs.Lists.{and_left, and_right, and_both, pick}
-use Rattle.xc_type_lowering.specs.Lowered.{Lowered, LoweredKind, value_if, value_of, made, with_kind, lower_step, lowering_kind, lowering, read_of, written_of, updated_of}
+use Rattle.xc_type_lowering.specs.Lowered.{Lowered, LoweredKind, value_if, value_of, made, with_kind, lower_step, lowering, read_of, written_of, updated_of}
+use Rattle.xc_type_lowering.specs.InnerLowered.{lowering_kind}
 use Rattle.xc_type_lowering.specs.Accessed.{Use, UseKind, only_accessed, settled, all_settled, children, uses_only, use_step, with_use, use_of}
 use Rattle.xc_type_lowering.specs.Kept.{with_address, with_addresses, addressed_in, values_plain, ExprKept}
 use Rattle.xc_type_lowering.proofs.Types.{same_is, pointee_is, content_is}

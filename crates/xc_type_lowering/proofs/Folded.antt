@@ -15,7 +15,8 @@ use Rattle.xc_tree.specs.Lists.{every, allows, passes, has}
 use Rattle.xc_tree.specs.Types.{fits, future_under}
 use Rattle.xc_tree.specs.Walk.{ids_step, loop_ids, declared_step, declared}
 use Rattle.xc_tree.specs.Statements.{Inside, Leaving, acts, header_ok, leave_step, leaves_ok, Sight, adds_none, sees, sees_all, added, sees_pragmas, sight_step, sees_ok}
-use Rattle.xc_type_lowering.specs.Lowered.{lowered, init_with, capture_with, with_exprs, lower_stmt_step, lowered_stmt, lowered_stmt_kind}
+use Rattle.xc_type_lowering.specs.Lowered.{lowered, init_with, capture_with, with_exprs, lower_stmt_step, lowered_stmt}
+use Rattle.xc_type_lowering.specs.InnerLowered.{lowered_stmt_kind}
 use Rattle.xc_type_lowering.proofs.Names.{type_kept, same_names}
 
 module _ (flags : List Bool) where

@@ -12,7 +12,8 @@ use Rattle.xc_tree.specs.declared.expr.ExprKind.TheFolds.{fold-ExprKind, fold-Ex
 use Rattle.xc_tree.specs.declared.operator.BinOp.{BinOp}
 use Rattle.xc_tree.specs.Lists.{every, joined}
 use Rattle.xc_tree.specs.Walk.{named_step, locals_named}
-use Rattle.xc_type_lowering.specs.Lowered.{Lowered, LoweredKind, value_if, made, with_kind, lower_step, lowering_kind, lowering, lowered, read_of, written_of, updated_of}
+use Rattle.xc_type_lowering.specs.Lowered.{Lowered, LoweredKind, value_if, made, with_kind, lower_step, lowering, lowered, read_of, written_of, updated_of}
+use Rattle.xc_type_lowering.specs.InnerLowered.{lowering_kind}
 
 pub type_kept : (flags : List Bool) (e : Expr) → (lowered flags e).ty ≡ e.ty
 type_kept flags e = ap (λ (l : Lowered). l.expr.ty) (fold_out-Expr LoweredKind Lowered (lower_step flags) with_kind e)

@@ -25,7 +25,8 @@ use Rattle.xc_tree.specs.Types.{same_ty, is_plain, may_hold, cell_of, holds_poin
 use Rattle.xc_tree.specs.Typed.{Context, expr_ok, value_ok}
 use Rattle.xc_tree.specs.Statements.{test_ok, init_ok, inits_ok, object_named, variable_named, capture_ok, root_ok, is_pointer_root, pragmas_ok, stmt_step, stmt_ok}
 use Rattle.xc_tree.proofs.Lists.{and_left, and_right, and_both}
-use Rattle.xc_type_lowering.specs.Lowered.{Lowered, LoweredKind, with_kind, lower_step, lowering_kind, lowering, lowered, read_of, init_with, capture_with, with_exprs, lower_stmt_step, lowered_stmt, lowered_stmt_kind}
+use Rattle.xc_type_lowering.specs.Lowered.{Lowered, LoweredKind, with_kind, lower_step, lowering, lowered, read_of, init_with, capture_with, with_exprs, lower_stmt_step, lowered_stmt}
+use Rattle.xc_type_lowering.specs.InnerLowered.{lowering_kind, lowered_stmt_kind}
 use Rattle.xc_type_lowering.specs.Accessed.{only_accessed, accessed_step, stmt_accessed}
 use Rattle.xc_type_lowering.specs.Kept.{with_address, with_addresses, addressed_in, values_plain, StmtKept}
 use Rattle.xc_type_lowering.proofs.Names.{type_kept}

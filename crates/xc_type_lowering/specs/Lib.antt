@@ -1,3 +1,4 @@
 pub mod Lowered
+pub mod InnerLowered
 pub mod Accessed
 pub mod Kept

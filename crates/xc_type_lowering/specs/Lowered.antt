@@ -6,13 +6,13 @@ use Rattle.xc_word.specs.declared.memory.Kind.TheVariants.{ReadXx, WriteXf}
 use Rattle.xc_tree.specs.declared.expr.Expr.{Expr}
 use Rattle.xc_tree.specs.declared.expr.ExprKind.{ExprKind, roll-ExprKind, Local, Set, Auto, Read, Write, Update}
 use Rattle.xc_tree.specs.declared.expr.ExprKind.TheOpen.{ExprKind-F, Expr-F}
-use Rattle.xc_tree.specs.declared.expr.ExprKind.TheFolds.{fold-Expr, fold-ExprKind, map-ExprKind}
+use Rattle.xc_tree.specs.declared.expr.ExprKind.TheFolds.{fold-Expr, map-ExprKind}
 use Rattle.xc_tree.specs.declared.stmt.Stmt.{Stmt}
 use Rattle.xc_tree.specs.declared.stmt.Capture.{Capture}
 use Rattle.xc_tree.specs.declared.stmt.StmtKind.{StmtKind, roll-StmtKind}
 use Rattle.xc_tree.specs.declared.stmt.StmtKind.TheOpen.{StmtKind-F}
 use Rattle.xc_tree.specs.declared.stmt.StmtKind.TheViews.{roll-Stmt}
-use Rattle.xc_tree.specs.declared.stmt.StmtKind.TheFolds.{fold-Stmt, fold-StmtKind}
+use Rattle.xc_tree.specs.declared.stmt.StmtKind.TheFolds.{fold-Stmt}
 use Rattle.xc_tree.specs.Types.{pointee}
 
 -- expressions ------------------------------------------------------------
@@ -66,18 +66,12 @@ lower_step addressed l = made (of_parts l)
 abbrev pub with_kind : Expr-F LoweredKind Lowered → Lowered
 with_kind e = record { value = e.kind.value; expr = record { ty = e.ty; span = e.span; kind = e.kind.kind } }
 
-abbrev pub lowering_kind : List Bool → ExprKind → LoweredKind
-lowering_kind addressed = fold-ExprKind LoweredKind Lowered (lower_step addressed) with_kind
-
 abbrev pub lowering : List Bool → Expr → Lowered
 lowering addressed = fold-Expr LoweredKind Lowered (lower_step addressed) with_kind
 
 -- the expression, where `addressed` tells of each local whether its address is taken
 abbrev pub lowered : List Bool → Expr → Expr
 lowered addressed e = (lowering addressed e).expr
-
-abbrev pub all_lowered : List Bool → List Expr → List Expr
-all_lowered addressed es = map (λ l. l.expr) (map (lowering addressed) es)
 
 -- statements -------------------------------------------------------------
 
@@ -103,6 +97,3 @@ lower_stmt_step addressed l = roll-StmtKind (with_exprs (lowered addressed) l)
 -- the statement, where `addressed` tells of each local whether its address is taken
 abbrev pub lowered_stmt : List Bool → Stmt → Stmt
 lowered_stmt addressed = fold-Stmt StmtKind Stmt (lower_stmt_step addressed) roll-Stmt
-
-abbrev pub lowered_stmt_kind : List Bool → StmtKind → StmtKind
-lowered_stmt_kind addressed = fold-StmtKind StmtKind Stmt (lower_stmt_step addressed) roll-Stmt

@@ -3,7 +3,8 @@
 ghost use Rattle.std.specs.Prelude.{◌≡◌, IfOk, Some};
 ghost use Rattle.std.specs.Option.{unwrap_or};
 ghost use Rattle.xc_tree.specs.Types.{pointee};
-ghost use Rattle.xc_type_lowering.specs.Lowered.{value_of, lowering, lowering_kind, lowered, all_lowered, read_of, written_of, updated_of};
+ghost use Rattle.xc_type_lowering.specs.Lowered.{value_of, lowering, lowered, read_of, written_of, updated_of};
+ghost use Rattle.xc_type_lowering.specs.InnerLowered.{lowering_kind, all_lowered};
 
 use sqlite_items::{Boxed, Items};
 use std::alloc::{AllocError, Global};

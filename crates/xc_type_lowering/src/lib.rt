@@ -6,6 +6,3 @@ mod lower;
 mod stmt;
 
 pub use lower::{lower_expr, lower_stmt};
-
-#[cfg(test)]
-mod tests;

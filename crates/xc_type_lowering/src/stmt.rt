@@ -1,7 +1,8 @@
 //! Statements.
 
 ghost use Rattle.std.specs.Prelude.{◌≡◌, map, option_map, IfOk};
-ghost use Rattle.xc_type_lowering.specs.Lowered.{init_with, capture_with, lowered, lowered_stmt, lowered_stmt_kind};
+ghost use Rattle.xc_type_lowering.specs.Lowered.{init_with, capture_with, lowered, lowered_stmt};
+ghost use Rattle.xc_type_lowering.specs.InnerLowered.{lowered_stmt_kind};
 
 use crate::expr::make_expr;
 use sqlite_items::{Boxed, Items};

@@ -8,7 +8,8 @@ use Rattle.std.proofs.lemmas.Bool.{eqb-true}
 use Rattle.std.proofs.lemmas.List.Folds.{list_any-append}
 use Rattle.std.proofs.lemmas.Slice.Eq.{bytes_eq-Decides}
 use Rattle.indexmap.specs.IndexSet.{insert_key}
-use Rattle.xc_type_names.specs.Stretches.{stretch_eq, bytes_at, AreIn, ArePlaces}
+use Rattle.xc_type_names.specs.Stretches.{bytes_at, AreIn, ArePlaces}
+use Rattle.xc_text_place.specs.Stretches.{stretch_eq}
 
 both_true : (b c : Bool) → (b && c) ≡ true → (b ≡ true) × (c ≡ true)
 both_true true c e = (refl, e)

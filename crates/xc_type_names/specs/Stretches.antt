@@ -3,9 +3,7 @@ use Rattle.std.specs.Prelude.{◌≡◌, ℕ, Bool, true, ◌&&◌, nat_eq, List
 use Rattle.std.specs.List.{list_any}
 use Rattle.std.specs.Map.{lookup}
 use Rattle.std.specs.Str.{bytes_eq}
-
-abbrev pub stretch_eq : ℕ × ℕ → ℕ × ℕ → Bool
-stretch_eq p q = nat_eq p.0 q.0 && nat_eq p.1 q.1
+use Rattle.xc_text_place.specs.Stretches.{stretch_eq}
 
 abbrev pub bytes_at : List ℕ → ℕ × ℕ → List ℕ
 bytes_at source p = slice_range source p.0 p.1

@@ -7,6 +7,3 @@ mod scopes;
 
 pub use numbers::{Names, Reserved, reserved_of};
 pub use scopes::Scopes;
-
-#[cfg(test)]
-mod tests;

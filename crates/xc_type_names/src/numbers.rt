@@ -13,7 +13,7 @@ use xc_lex::{Token, TokenKind};
 use xc_text_place::Span;
 
 /// A name that cannot be declared: `printf`, and the generic functions of tagged memory.
-#[derive(Clone, Copy, Debug, PartialEq, Eq)]
+#[derive(Clone, Copy, PartialEq, Eq)]
 pub enum Reserved {
     Printf,
     ReadFe,

@@ -5,7 +5,8 @@ use Rattle.std.proofs.lemmas.List.{drop_more, drop_all}
 use Rattle.std.proofs.lemmas.Grind.{common_steps}
 use Rattle.xc_type_pragmas.specs.declared.words.Mode.{Mode}
 use Rattle.xc_type_pragmas.specs.declared.words.Mode.TheVariants.{Text, Line, Opening, Comment, Closing}
-use Rattle.xc_type_pragmas.specs.Words.{is_blank, is_next, mode_after, is_apart, word_at, words_in}
+use Rattle.xc_type_pragmas.specs.Words.{is_next, mode_after, is_apart, word_at, words_in}
+use Rattle.xc_lex.specs.Bytes.{is_blank}
 
 front_of : (bs : List ℕ) (i : ℕ) → slice_get (drop i bs) 0 ≡ slice_get bs i
 front_of bs zero = refl

@@ -4,10 +4,7 @@ use Rattle.xc_text_place.specs.declared.Span.{Span}
 use Rattle.xc_type_pragmas.specs.declared.words.Mode.{Mode}
 use Rattle.xc_type_pragmas.specs.declared.words.Mode.TheVariants.{Text, Line, Opening, Comment, Closing}
 use Rattle.xc_type_pragmas.specs.declared.words.Cursor.{Cursor}
-
--- white space within a line: space, tab, carriage return, form feed (C99 6.4)
-abbrev pub is_blank : ℕ → Bool
-is_blank b = b == 32 || b == 9 || b == 13 || b == 12
+use Rattle.xc_lex.specs.Bytes.{is_blank}
 
 abbrev pub is_next : ℕ → Option ℕ → Bool
 is_next c None = false

@@ -7,6 +7,3 @@ mod words;
 
 pub use read::{Pragma, read_pragma};
 pub use set::{Named, Said, Settings, loop_settings};
-
-#[cfg(test)]
-mod tests;

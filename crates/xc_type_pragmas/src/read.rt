@@ -11,7 +11,7 @@ use xc_text_place::Span;
 use xc_tree::Schedule;
 
 /// What a pragma says, with the place of a name in the source.
-#[derive(Clone, Copy, Debug, PartialEq, Eq)]
+#[derive(Clone, Copy, PartialEq, Eq)]
 pub enum Pragma {
     /// `assert parallel`
     Parallel,

@@ -12,7 +12,7 @@ use xc_text_place::Span;
 use xc_tree::{Marks, Pragmas, Root, Schedule};
 
 /// What the name of a pragma stands for, where the loop stands.
-#[derive(Clone, Copy, Debug, PartialEq, Eq)]
+#[derive(Clone, Copy, PartialEq, Eq)]
 pub enum Named {
     /// There is no name, or it is not in scope, or a function's.
     Nothing,
@@ -23,7 +23,7 @@ pub enum Named {
 }
 
 /// A pragma before a loop.
-#[derive(Clone, Copy, Debug, PartialEq, Eq)]
+#[derive(Clone, Copy, PartialEq, Eq)]
 pub struct Said {
     pub span: Span,
     pub pragma: Pragma,

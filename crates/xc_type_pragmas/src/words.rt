@@ -2,12 +2,14 @@
 
 ghost use Rattle.std.specs.Prelude.{◌≡◌, ℕ, ◌<◌, ◌≤◌, ◌+◌, ◌^◌, ◌∷◌, true, false, length, drop, get_or, slice_get, Some};
 ghost use Rattle.xc_type_pragmas.specs.declared.words.Mode.TheVariants.{Text};
-ghost use Rattle.xc_type_pragmas.specs.Words.{is_blank, is_next, mode_after, is_apart, word_at, words_in, words_from, with_word};
+ghost use Rattle.xc_type_pragmas.specs.Words.{is_next, mode_after, is_apart, word_at, words_in, words_from, with_word};
+ghost use Rattle.xc_lex.specs.Bytes.{is_blank};
 
+use xc_lex::is_blank;
 use xc_text_place::Span;
 
 /// Where a byte of a line stands.
-#[derive(Clone, Copy, Debug, PartialEq, Eq)]
+#[derive(Clone, Copy, PartialEq, Eq)]
 pub enum Mode {
     /// Outside comments.
     Text,
@@ -22,23 +24,17 @@ pub enum Mode {
 }
 
 /// A place between words.
-#[derive(Clone, Copy, Debug, PartialEq, Eq)]
+#[derive(Clone, Copy, PartialEq, Eq)]
 pub struct Cursor {
     pub mode: Mode,
     pub at: usize,
 }
 
 /// The next word, if there is one, and the place behind it.
-#[derive(Clone, Copy, Debug, PartialEq, Eq)]
+#[derive(Clone, Copy, PartialEq, Eq)]
 pub struct Next {
     pub word: Option<Span>,
     pub rest: Cursor,
-}
-
-fn is_blank(b: u8) -> bool
-    ensures { result ≡ is_blank b }
-{
-    b == b' ' || b == b'\t' || b == b'\r' || b == b'\x0c'
 }
 
 fn is_next(c: u8, next: Option<u8>) -> bool

@@ -6,7 +6,7 @@ ghost use Rattle.xc_type_rule.specs.Least.{is_before, least_from, name_fault, ty
 use xc_text_place::Span;
 
 /// Which rules a fault breaks.
-#[derive(Drop, Clone, Copy, Debug, PartialEq, Eq)]
+#[derive(Drop, Clone, Copy)]
 pub enum Breach {
     /// Those of names and scopes (C99 6.2.1).
     Name,
@@ -15,7 +15,7 @@ pub enum Breach {
 }
 
 /// A rule that is broken. The token to blame stands at this byte of the source.
-#[derive(Drop, Clone, Copy, Debug, PartialEq, Eq)]
+#[derive(Drop, Clone, Copy)]
 pub struct Fault {
     pub at: u32,
     pub breach: Breach,

@@ -24,6 +24,3 @@ pub use types::{
     is_void, same_ty,
 };
 pub use value::rvalue;
-
-#[cfg(test)]
-mod tests;

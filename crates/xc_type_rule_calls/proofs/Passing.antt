@@ -7,7 +7,8 @@ use Rattle.xc_tree.specs.declared.ty.Ty.{Ty}
 use Rattle.xc_tree.specs.declared.expr.Expr.{Expr}
 use Rattle.xc_type_rule.specs.declared.found.Found.{Found}
 use Rattle.xc_type_rule.specs.Making.{both}
-use Rattle.xc_type_rule_calls.specs.Arguments.{given_by, held_by, given_to, may_pass, all_fit, one_more, all_made}
+use Rattle.xc_type_rule_calls.specs.Arguments.{given_by, held_by, given_to, may_pass, all_fit, all_made}
+use Rattle.xc_type_rule_calls.specs.InnerArguments.{one_more}
 
 pub given_none : (ps : List (Option Ty)) → given_to ps [] ≡ []
 given_none [] = refl

@@ -1,5 +1,5 @@
 -- Arguments against parameters (C99 6.5.2.2).
-use Rattle.std.specs.Prelude.{Bool, true, false, ◌&&◌, cond, List, [], ◌∷◌, ◌++◌, Option, Some, None, option_and_then}
+use Rattle.std.specs.Prelude.{Bool, true, false, ◌&&◌, cond, List, [], ◌∷◌, Option, Some, None, option_and_then}
 use Rattle.xc_tree.specs.declared.ty.Ty.{Ty}
 use Rattle.xc_tree.specs.declared.expr.Expr.{Expr}
 use Rattle.xc_tree.specs.Types.{is_plain, fits, base}
@@ -39,10 +39,6 @@ all_fit [] [] = true
 all_fit [] (f ∷ fs) = false
 all_fit (p ∷ ps) [] = false
 all_fit (p ∷ ps) (f ∷ fs) = may_pass p f.known && all_fit ps fs
-
--- what is made of these and one more, if all are made
-abbrev pub one_more : Option (List Expr) → Option Expr → Option (List Expr)
-one_more es e = both (λ es e. es ++ e ∷ []) es e
 
 -- what is made of them, if all are made
 unfoldable pub all_made : List Found → Option (List Expr)

@@ -3,6 +3,7 @@
 ghost use Rattle.std.specs.Prelude.{◌≡◌, IfOk, slice_get, option_and_then};
 ghost use Rattle.std.specs.Option.{option_copied};
 ghost use Rattle.xc_type_rule_calls.specs.Arguments as spec;
+ghost use Rattle.xc_type_rule_calls.specs.InnerArguments as inner_spec;
 
 use sqlite_items::Items;
 use std::alloc::{AllocError, Global};
@@ -92,7 +93,7 @@ pub(crate) fn all_fit(params: &[Option<Ty>], args: &[Found]) -> bool
 
 #[tactic(auto, unfolding(xc_type_rule::specs::Making::both))]
 fn one_more(made: Option<Items<Expr>>, e: Option<Expr>) -> Result<Option<Items<Expr>>, AllocError>
-    ensures { IfOk result (λ r. r ≡ spec.one_more made e) }
+    ensures { IfOk result (λ r. r ≡ inner_spec.one_more made e) }
 {
     match (made, e) {
         (Some(made), Some(e)) => {

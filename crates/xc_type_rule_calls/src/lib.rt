@@ -10,6 +10,3 @@ mod print;
 pub use calls::{call, misused};
 pub use generic::{access, update};
 pub use print::{Text, integers_taken, ninth, printed};
-
-#[cfg(test)]
-mod tests;

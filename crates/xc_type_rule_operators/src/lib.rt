@@ -16,6 +16,3 @@ pub use branch::{comma, conditional};
 pub use double::binary;
 pub use logic::{Logic, logical};
 pub use single::{cast, grouped, number, plus, unary};
-
-#[cfg(test)]
-mod tests;

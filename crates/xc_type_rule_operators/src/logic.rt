@@ -11,7 +11,7 @@ use xc_text_place::Span;
 use xc_type_rule::{Fault, Found};
 
 /// An operator that may leave its right operand unevaluated.
-#[derive(Clone, Copy, Debug, PartialEq, Eq)]
+#[derive(Clone, Copy)]
 pub enum Logic {
     /// `&&`
     And,

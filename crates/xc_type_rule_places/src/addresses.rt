@@ -7,6 +7,7 @@ ghost use Rattle.xc_type_rule_places.specs.Places as spec;
 
 use sqlite_items::Boxed;
 use std::alloc::{AllocError, Global};
+use xc_hold::kept;
 use xc_text_place::Span;
 use xc_tree::{Expr, ExprKind, Ty};
 use xc_type_rule::{Fault, Found, Known, found_by};
@@ -21,9 +22,13 @@ fn address_ruling(alloc: Global, known: Known) -> Result<Option<Known>, AllocErr
             }
             Ok(None)
         }
-        Known::Value(_) => Ok(None),
+        Known::Value(ty) => {
+            drop(ty);
+            Ok(None)
+        }
         Known::Place { ty, within } => {
             if within {
+                drop(ty);
                 return Ok(None);
             }
             Ok(Some(Known::Value(Ty::Ptr(Boxed::new(alloc, ty)?))))
@@ -48,7 +53,10 @@ fn address_kind(made: Option<Expr>) -> Option<ExprKind>
 {
     match made {
         None => None,
-        Some(e) => Some(raised(e.kind)),
+        Some(Expr { ty, kind, .. }) => {
+            drop(ty);
+            Some(raised(kind))
+        }
     }
 }
 
@@ -65,6 +73,6 @@ pub fn address(
 {
     let Found { known, made } = a;
     let kind = address_kind(made);
-    let ruling = address_ruling(alloc, known)?;
+    let (ruling, kind) = kept(address_ruling(alloc, known), kind)?;
     found_by(alloc, span, ruling, kind, first)
 }

@@ -10,6 +10,7 @@ ghost use Rattle.xc_type_rule_places.specs.Places as spec;
 
 use sqlite_items::Boxed;
 use std::alloc::{AllocError, Global};
+use xc_hold::{both, kept};
 use xc_text_place::Span;
 use xc_tree::{Expr, ExprKind, Ty};
 use xc_type_rule::{Fault, Found, Known, cells, may_be_number, place_by, rvalue, typed};
@@ -52,7 +53,10 @@ fn pointed(known: Known) -> Option<Known>
     match known {
         Known::Unknown { .. } => Some(Known::Unknown { place: true }),
         Known::Value(ty) => object_of(ty),
-        Known::Place { .. } => None,
+        Known::Place { ty, within: _ } => {
+            drop(ty);
+            None
+        }
     }
 }
 
@@ -106,8 +110,14 @@ fn array_at(sizes: &[u32], within: bool, ty: Ty, made: Option<Expr>) -> Base
                 made,
             }
         }
-        Ty::Void | Ty::Int | Ty::Uint => no_base(),
-        Ty::Ptr(_) | Ty::Struct(_) | Ty::Sync(_) | Ty::Future(_) => no_base(),
+        Ty::Void | Ty::Int | Ty::Uint | Ty::Struct(_) => {
+            drop(made);
+            no_base()
+        }
+        Ty::Ptr(of) | Ty::Sync(of) | Ty::Future(of) => {
+            drop((of, made));
+            no_base()
+        }
     }
 }
 
@@ -118,15 +128,26 @@ fn array_base(sizes: &[u32], a: Found) -> Base
     let Found { known, made } = a;
     match known {
         Known::Place { ty, within } => array_at(sizes, within, ty, made),
-        Known::Unknown { .. } => no_base(),
-        Known::Value(_) => no_base(),
+        Known::Unknown { .. } => {
+            drop(made);
+            no_base()
+        }
+        Known::Value(ty) => {
+            drop((ty, made));
+            no_base()
+        }
     }
 }
 
 fn index_ruling(element: Option<Known>, index: &Known) -> Option<Known>
     ensures { result ≡ rulings.index_ruling element index.now }
 {
-    if may_be_number(index) { element } else { None }
+    if may_be_number(index) {
+        element
+    } else {
+        drop(element);
+        None
+    }
 }
 
 #[tactic(auto, unfolding(xc_type_rule::specs::Making::both))]
@@ -141,8 +162,7 @@ fn element_of(
 {
     match (base, index) {
         (Some(base), Some(index)) => {
-            let base = Boxed::new(alloc, base)?;
-            let index = Boxed::new(alloc, index)?;
+            let (base, index) = both(Boxed::new(alloc, base), Boxed::new(alloc, index))?;
             Ok(Some(ExprKind::Index {
                 base,
                 index,
@@ -151,8 +171,14 @@ fn element_of(
             }))
         }
         (None, None) => Ok(None),
-        (None, Some(_)) => Ok(None),
-        (Some(_), None) => Ok(None),
+        (None, Some(index)) => {
+            drop(index);
+            Ok(None)
+        }
+        (Some(base), None) => {
+            drop(base);
+            Ok(None)
+        }
     }
 }
 
@@ -167,8 +193,16 @@ fn element(
     ensures part { IfOk result (λ r. r ≡ spec.element_part span base index) }
     ensures first { OnOk result (first.new ≡ least_from first.old (spec.element_faults span base index)) }
 {
-    let ruling = index_ruling(base.element, &index.known);
-    let kind = element_of(alloc, base.size, base.bound, base.made, index.made)?;
+    let Base {
+        element,
+        size,
+        bound,
+        made,
+    } = base;
+    let ruling = index_ruling(element, &index.known);
+    drop(index.known);
+    let kind = element_of(alloc, size, bound, made, index.made);
+    let (kind, ruling) = kept(kind, ruling)?;
     place_by(alloc, span, ruling, kind, first)
 }
 
@@ -205,7 +239,7 @@ pub fn index(
     ensures part { IfOk result (λ r. r ≡ spec.index_part sizes.now span at a index) }
     ensures first { OnOk result (first.new ≡ least_from first.old (spec.index_faults sizes.now span at a index)) }
 {
-    let base = base_of(alloc, sizes, at, a, first)?;
+    let (base, index) = kept(base_of(alloc, sizes, at, a, first), index)?;
     element(alloc, span, base, index, first)
 }
 

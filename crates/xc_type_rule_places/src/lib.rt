@@ -11,6 +11,3 @@ pub use addresses::address;
 pub use element::{index, star};
 pub use member::{arrow, arrow_owner, dot, dot_owner};
 pub use names::name;
-
-#[cfg(test)]
-mod tests;

@@ -82,8 +82,14 @@ fn member_part(
             let kind = member_of(alloc, m.off, made)?;
             declared_place(alloc, span, m.ty.as_ref(), within, kind)
         }
-        (Some(_), None) => Ok(unknown_place()),
-        (None, _) => Ok(unknown_place()),
+        (Some(_), None) => {
+            drop(made);
+            Ok(unknown_place())
+        }
+        (None, _) => {
+            drop(made);
+            Ok(unknown_place())
+        }
     }
 }
 
@@ -123,10 +129,12 @@ pub fn dot(
     ensures part { IfOk result (λ r. r ≡ spec.dot_part span (option_copied member.entry) mixes a) }
     ensures first { OnOk result (first.new ≡ least_from first.old (spec.dot_faults span at (option_copied member.entry) a)) }
 {
-    let owner = dot_owner(&a.known);
-    note_member(span, at, may_be_place(&a.known), owner, member, first);
-    let within = lies_within(&a.known) || mixes;
-    member_part(alloc, span, within, owner, member, a.made)
+    let Found { known, made } = a;
+    let owner = dot_owner(&known);
+    note_member(span, at, may_be_place(&known), owner, member, first);
+    let within = lies_within(&known) || mixes;
+    drop(known);
+    member_part(alloc, span, within, owner, member, made)
 }
 
 /// `p->name` of a value, likewise.
@@ -142,7 +150,9 @@ pub fn arrow(
     ensures part { IfOk result (λ r. r ≡ spec.arrow_part span (option_copied member.entry) mixes p) }
     ensures first { OnOk result (first.new ≡ least_from first.old (spec.arrow_faults span at (option_copied member.entry) p)) }
 {
-    let owner = arrow_owner(&p.known);
-    note_member(span, at, is_unknown(&p.known), owner, member, first);
-    member_part(alloc, span, mixes, owner, member, p.made)
+    let Found { known, made } = p;
+    let owner = arrow_owner(&known);
+    note_member(span, at, is_unknown(&known), owner, member, first);
+    drop(known);
+    member_part(alloc, span, mixes, owner, member, made)
 }

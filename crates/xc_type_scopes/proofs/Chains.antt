@@ -6,7 +6,8 @@ use Rattle.xc_type_rule.specs.Least.{least_from}
 use Rattle.xc_type_rule.proofs.Least.{least_append}
 use Rattle.xc_type_scopes.specs.declared.env.Env.{Env}
 use Rattle.xc_type_scopes.specs.Judge.{Judged, Judge, Judges, and_then}
-use Rattle.xc_type_scopes.specs.Told.{Told, Tells, anywhere}
+use Rattle.xc_type_scopes.specs.Told.{Told, anywhere}
+use Rattle.xc_type_scopes.specs.InnerTold.{Tells}
 
 module _ {A B : Type 0} (j : Judge A) (k : A → Judge B) where
   pub judges_then : (e e' e'' : Env) (f f' f'' : Option Fault) (x : A) (y : B) → Judges j e e' f f' x → Judges (k x) e' e'' f' f'' y → Judges (and_then j k) e e'' f f'' y

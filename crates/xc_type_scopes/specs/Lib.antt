@@ -1,3 +1,4 @@
 pub mod Env
 pub mod Judge
 pub mod Told
+pub mod InnerTold

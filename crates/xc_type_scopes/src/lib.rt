@@ -5,6 +5,3 @@
 mod env;
 
 pub use env::{Env, Outside};
-
-#[cfg(test)]
-mod tests;

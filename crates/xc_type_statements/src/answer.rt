@@ -89,6 +89,7 @@ pub(crate) fn returned(
     if !may_be_given(ty, &known) {
         note_type(first, span);
     }
+    drop(known);
     match made {
         None => Ok(None),
         Some(e) => Ok(Some(Stmt {

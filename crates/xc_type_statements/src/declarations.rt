@@ -1,12 +1,14 @@
 //! Declarations in functions.
 
-ghost use Rattle.std.specs.Prelude.{◌≡◌, IfOk, OnOk};
+ghost use Rattle.std.specs.Prelude.{◌≡◌, Some, IfOk, OnOk};
+ghost use Rattle.xc_type_scopes.specs.Env.{next_local};
 ghost use Rattle.xc_type_scopes.specs.Judge.{Judges};
 ghost use Rattle.xc_type_statements.specs.Declarations as spec;
 
-use crate::make::{followed, one};
+use crate::make::with_one;
 use sqlite_items::Items;
 use std::alloc::{AllocError, Global};
+use xc_hold::{both, kept};
 use xc_raw::Raw;
 use xc_raw_parts::span_of;
 use xc_text_place::Span;
@@ -21,6 +23,24 @@ fn may_be_declared(env: &Env, name: u32) -> bool
     ensures { result ≡ spec.may_be_declared name env.now }
 {
     reserved_of(name).is_none() && env.is_new_own(name)
+}
+
+// The number of the object, which has this type.
+fn with_object(
+    alloc: Global,
+    env: &mut Env,
+    name: u32,
+    at: Span,
+    ty: &Ty,
+) -> Result<u32, AllocError>
+    ensures number { IfOk result (λ r. r ≡ next_local env.old) }
+    ensures env { OnOk result (env.new ≡ spec.with_name name at (Some ty.now) env.old) }
+{
+    let (ty, copy) = both(copy_ty(alloc, ty), copy_ty(alloc, ty))?;
+    let (number, ty) = kept(env.add_local(at, copy), ty)?;
+    let ty = Some(ty);
+    env.declare_own(name, Thing::Local { number, ty })?;
+    Ok(number)
 }
 
 // The number of the object, none where its type is unknown.
@@ -45,12 +65,7 @@ fn with_name(
             )?;
             Ok(None)
         }
-        Some(ty) => {
-            let number = env.add_local(at, copy_ty(alloc, ty)?)?;
-            let ty = Some(copy_ty(alloc, ty)?);
-            env.declare_own(name, Thing::Local { number, ty })?;
-            Ok(Some(number))
-        }
+        Some(ty) => Ok(Some(with_object(alloc, env, name, at, ty)?)),
     }
 }
 
@@ -93,12 +108,13 @@ fn initialised(
 fn declare_made(span: Span, number: Option<u32>, init: Option<Items<(u32, Expr)>>) -> Option<Stmt>
     ensures { result ≡ spec.declare_made span number init }
 {
-    let local = number?;
-    let init = init?;
-    Some(Stmt {
-        span,
-        kind: StmtKind::Declare { local, init },
-    })
+    match number.zip(init) {
+        None => None,
+        Some((local, init)) => Some(Stmt {
+            span,
+            kind: StmtKind::Declare { local, init },
+        }),
+    }
 }
 
 #[tactic(auto, using(crate::proofs::Parts::part_rules), unfolding(crate::specs::Declarations::declares_by))]
@@ -116,8 +132,9 @@ fn declares(
         [] => Ok(None),
         [declarator, rest @ ..] => {
             let one = declared(alloc, text, env, declarator, base, first)?;
-            let number = declare(alloc, env, &one, first)?;
+            let number = declare(alloc, env, &one, first);
             let Declared { name: _, at: _, ty } = one;
+            let (number, ty) = kept(number, ty)?;
             let init = initialised(alloc, text, env, rest, ty, first)?;
             Ok(declare_made(span_of(text.tokens, node), number, init))
         }
@@ -138,7 +155,7 @@ fn declares_all(
     let mut all = Some(Items::new(alloc));
     'nodes: for node in nodes {
         let made = declares(alloc, text, env, node, base, first)?;
-        all = followed(all, one(alloc, made)?)?;
+        all = with_one(alloc, all, made)?;
     }
     Ok(all)
 }
@@ -158,7 +175,9 @@ pub(crate) fn declaration(
         [] => Ok(Some(Items::new(alloc))),
         [specs, rest @ ..] => {
             let base = specified(alloc, text, env, specs, false, first)?;
-            declares_all(alloc, text, env, rest, &base, first)
+            let all = declares_all(alloc, text, env, rest, &base, first);
+            drop(base);
+            all
         }
     }
 }

@@ -20,6 +20,7 @@ use crate::make::{
 use crate::pragmas::{Begun, begin_loop};
 use sqlite_items::Items;
 use std::alloc::{AllocError, Global};
+use xc_hold::kept;
 use xc_raw::{Raw, Rule};
 use xc_raw_parts::span_of;
 use xc_text_place::Span;
@@ -46,6 +47,7 @@ fn tested(
     if !may_be_plain(&known) {
         note_type(first, span);
     }
+    drop(known);
     Ok(made)
 }
 
@@ -64,6 +66,7 @@ fn evaluated(
     if !may_be_used(&known) {
         note_type(first, span_of(text.tokens, node));
     }
+    drop(known);
     Ok(made)
 }
 
@@ -307,8 +310,9 @@ fn while_by(
     match node.parts.as_slice() {
         [test, inner, ..] => {
             let begun = begin_loop(alloc, text, env, span.start)?;
-            let c = tested(alloc, text, env, test, span, first)?;
-            let x = stated(alloc, text, env, inner, answer, true, first)?;
+            let (c, begun) = kept(tested(alloc, text, env, test, span, first), begun)?;
+            let x = stated(alloc, text, env, inner, answer, true, first);
+            let (x, (begun, c)) = kept(x, (begun, c))?;
             loop_made(
                 alloc,
                 span,
@@ -338,8 +342,10 @@ fn do_by(
     match node.parts.as_slice() {
         [inner, test, ..] => {
             let begun = begin_loop(alloc, text, env, span.start)?;
-            let x = stated(alloc, text, env, inner, answer, true, first)?;
-            let c = tested(alloc, text, env, test, span, first)?;
+            let x = stated(alloc, text, env, inner, answer, true, first);
+            let (x, begun) = kept(x, begun)?;
+            let c = tested(alloc, text, env, test, span, first);
+            let (c, (begun, x)) = kept(c, (begun, x))?;
             loop_made(
                 alloc,
                 span,
@@ -411,8 +417,9 @@ fn for_inner(
 ) -> Result<Option<Stmt>, AllocError>
     ensures { IfOk result (λ r. Judges (spec.for_inner text.now (span_in text.now node.now) answer.now begun (map (statement text.now) (out-Raw node.now).parts)) env.old env.new first.old first.new r) }
 {
-    let header = clauses(alloc, text, env, node, answer, first)?;
-    let x = repeated(alloc, text, env, node, answer, first)?;
+    let (header, begun) = kept(clauses(alloc, text, env, node, answer, first), begun)?;
+    let x = repeated(alloc, text, env, node, answer, first);
+    let (x, (begun, header)) = kept(x, (begun, header))?;
     let span = span_of(text.tokens, node);
     loop_made(alloc, span, LoopForm::For, begun, header, x)
 }
@@ -432,8 +439,10 @@ fn threaded(
     ensures { IfOk result (λ r. Judges (futures.threaded copies.now ((statement text.now node.now).body answer.now false)) env.old env.new first.old first.new r) }
 {
     let outside = env.begin_future(alloc)?;
-    let captures = declared_copies(alloc, env, copies, first)?;
-    let made = body(alloc, text, env, node, answer, false, first)?;
+    let captures = declared_copies(alloc, env, copies, first);
+    let (captures, outside) = kept(captures, outside)?;
+    let made = body(alloc, text, env, node, answer, false, first);
+    let (made, (captures, outside)) = kept(made, (captures, outside))?;
     env.end_future(outside);
     Ok((captures, made))
 }

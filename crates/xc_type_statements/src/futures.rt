@@ -6,9 +6,10 @@ ghost use Rattle.xc_type_statements.specs.Futures as spec;
 
 use crate::answer::Answer;
 use crate::declarations::declare;
-use crate::make::{followed, one};
+use crate::make::with_one;
 use sqlite_items::Items;
 use std::alloc::{AllocError, Global};
+use xc_hold::{both, kept};
 use xc_raw::{Access, Raw};
 use xc_raw_parts::{PlaceStep, captured_names, place_steps, spot};
 use xc_text_place::Span;
@@ -27,6 +28,13 @@ pub struct Copied {
 
 // Places.
 
+/// Where a step of a place stands: what covers the place with the step, and what covers the place before it.
+#[derive(Clone, Copy)]
+struct Stretch {
+    whole: Span,
+    before: Span,
+}
+
 fn up_to(a: Span, b: Span) -> Span
     ensures { result ≡ spec.up_to a b }
 {
@@ -42,15 +50,15 @@ fn element(
     text: &Text,
     env: &mut Env,
     node: &Raw,
-    span: Span,
-    at: Span,
+    stretch: Stretch,
     base: Found,
     first: &mut Option<Fault>,
 ) -> Result<Found, AllocError>
-    ensures { IfOk result (λ r. Judges (spec.element text.now span at base node.now) env.old env.new first.old first.new r) }
+    ensures { IfOk result (λ r. Judges (spec.element text.now stretch.whole stretch.before base node.now) env.old env.new first.old first.new r) }
 {
-    let v = value(alloc, text, env, node, first)?;
-    index(alloc, env.structs().sizes(), span, at, base, v, first)
+    let Stretch { whole, before } = stretch;
+    let (v, base) = kept(value(alloc, text, env, node, first), base)?;
+    index(alloc, env.structs().sizes(), whole, before, base, v, first)
 }
 
 #[tactic(auto, using(crate::proofs::Parts::part_rules), unfolding(crate::specs::Futures::member))]
@@ -58,21 +66,21 @@ fn member(
     alloc: Global,
     text: &Text,
     env: &Env,
-    span: Span,
-    at: Span,
+    stretch: Stretch,
     base: Found,
     access: Access,
     name: usize,
     first: &mut Option<Fault>,
 ) -> Result<Found, AllocError>
-    ensures { IfOk result (λ r. Judges (spec.member text.now span at base access name) env.now env.now first.old first.new r) }
+    ensures { IfOk result (λ r. Judges (spec.member text.now stretch.whole stretch.before base access name) env.now env.now first.old first.new r) }
 {
+    let Stretch { whole, before } = stretch;
     let (named_at, number) = (spot(text.tokens, name), text.name_of(name));
     match access {
-        Access::Dot => dotted(alloc, env, span, named_at, number, base, first),
+        Access::Dot => dotted(alloc, env, whole, named_at, number, base, first),
         Access::Arrow => {
-            let p = rvalue(alloc, env.structs().sizes(), at, base, first)?;
-            arrowed(alloc, env, span, named_at, number, p, first)
+            let p = rvalue(alloc, env.structs().sizes(), before, base, first)?;
+            arrowed(alloc, env, whole, named_at, number, p, first)
         }
     }
 }
@@ -96,18 +104,23 @@ fn reached(
     'steps: for step in steps {
         match *step {
             PlaceStep::Index => match rest {
-                [] => return Ok(unknown_place()),
+                [] => {
+                    drop(found);
+                    return Ok(unknown_place());
+                }
                 [node, more @ ..] => {
-                    let span = up_to(at, spot(text.tokens, node.end as usize));
-                    found = element(alloc, text, env, node, span, at, found, first)?;
-                    at = span;
+                    let whole = up_to(at, spot(text.tokens, node.end as usize));
+                    let stretch = Stretch { whole, before: at };
+                    found = element(alloc, text, env, node, stretch, found, first)?;
+                    at = whole;
                     rest = more;
                 }
             },
             PlaceStep::Member { access, name } => {
-                let span = up_to(at, spot(text.tokens, name));
-                found = member(alloc, text, env, span, at, found, access, name, first)?;
-                at = span;
+                let whole = up_to(at, spot(text.tokens, name));
+                let stretch = Stretch { whole, before: at };
+                found = member(alloc, text, env, stretch, found, access, name, first)?;
+                at = whole;
             }
         }
     }
@@ -179,7 +192,9 @@ pub(crate) fn awaited(
     if !may_be_future(&known) {
         note_type(first, span);
     }
-    let ty = waits_for(alloc, &known)?;
+    let ty = waits_for(alloc, &known);
+    drop(known);
+    let (ty, made) = kept(ty, made)?;
     Ok((made, Answer::Future(ty)))
 }
 
@@ -216,12 +231,17 @@ fn copy_of(
 {
     let (at, name) = (spot(text.tokens, token), text.name_of(token));
     let variable = named(alloc, env, at, name, first)?;
-    let ty = variable_ty(alloc, &variable.known)?;
+    let ty = variable_ty(alloc, &variable.known);
     let fine = may_be_variable(&variable.known);
-    let Found { known: _, made } = rvalue(alloc, env.structs().sizes(), at, variable, first)?;
+    let (v, ty) = both(
+        rvalue(alloc, env.structs().sizes(), at, variable, first),
+        ty,
+    )?;
     if !fine {
         note_type(first, at);
     }
+    let Found { known, made } = v;
+    drop(known);
     Ok(Copied {
         declared: Declared { name, at, ty },
         from: made,
@@ -271,9 +291,10 @@ fn copy_made(alloc: Global, made: &Option<Expr>) -> Result<Option<Expr>, AllocEr
 fn capture_made(number: Option<u32>, from: Option<Expr>) -> Option<Capture>
     ensures { result ≡ spec.capture_made number from }
 {
-    let local = number?;
-    let from = from?;
-    Some(Capture { from, local })
+    match number.zip(from) {
+        None => None,
+        Some((local, from)) => Some(Capture { from, local }),
+    }
 }
 
 fn capture(
@@ -302,7 +323,7 @@ pub(crate) fn declared_copies(
     let mut all = Some(Items::new(alloc));
     'copies: for copy in copies {
         let made = capture(alloc, env, copy, first)?;
-        all = followed(all, one(alloc, made)?)?;
+        all = with_one(alloc, all, made)?;
     }
     Ok(all)
 }

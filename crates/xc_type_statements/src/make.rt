@@ -51,6 +51,18 @@ pub fn followed<T: Drop>(
     }
 }
 
+/// One more behind the others.
+pub(crate) fn with_one<T: Drop>(
+    alloc: Global,
+    all: Option<Items<T>>,
+    made: Option<T>,
+) -> Result<Option<Items<T>>, AllocError>
+    ensures { IfOk result (λ r. r ≡ spec.followed all (spec.one made)) }
+{
+    let (more, all) = kept(one(alloc, made), all)?;
+    followed(all, more)
+}
+
 #[tactic(auto, unfolding(crate::specs::Making::single))]
 pub(crate) fn single(all: Option<Items<Stmt>>) -> Option<Stmt>
     ensures { result ≡ spec.single all }

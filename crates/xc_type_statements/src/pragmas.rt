@@ -4,10 +4,12 @@ ghost use Rattle.std.specs.Prelude.{◌≡◌, IfOk, OnOk};
 ghost use Rattle.std.specs.Option.{option_copied};
 ghost use Rattle.xc_tree.specs.Types.{holds_pointer};
 ghost use Rattle.xc_type_pragmas.specs.Said.{pragma_of};
+ghost use Rattle.xc_type_pragmas.specs.Set.{settings_of};
 ghost use Rattle.xc_type_statements.specs.Pragmas as spec;
 
 use sqlite_items::Items;
 use std::alloc::{AllocError, Global};
+use xc_hold::kept;
 use xc_text_place::Span;
 use xc_tree::{Pragmas, Root, Ty};
 use xc_type_expressions::Text;
@@ -112,6 +114,13 @@ fn said(alloc: Global, text: &Text, env: &Env) -> Result<Items<Said>, AllocError
     Ok(all)
 }
 
+fn settings(alloc: Global, text: &Text, env: &Env) -> Result<Settings, AllocError>
+    ensures { IfOk result (λ r. r ≡ settings_of (spec.said text.now env.now)) }
+{
+    let all = said(alloc, text, env)?;
+    loop_settings(alloc, all.as_slice())
+}
+
 /// The loop begins whose keyword stands at `at`.
 #[tactic(auto, unfolding(crate::specs::Pragmas::begun))]
 pub(crate) fn begin_loop(
@@ -123,8 +132,7 @@ pub(crate) fn begin_loop(
     ensures part { IfOk result (λ r. r ≡ (spec.begun text.now at env.old).part) }
     ensures env { OnOk result (env.new ≡ (spec.begun text.now at env.old).env) }
 {
-    let all = said(alloc, text, env)?;
-    let Settings { pragmas, notes } = loop_settings(alloc, all.as_slice())?;
-    let id = env.add_loop(alloc, at, notes)?;
+    let Settings { pragmas, notes } = settings(alloc, text, env)?;
+    let (id, pragmas) = kept(env.add_loop(alloc, at, notes), pragmas)?;
     Ok(Begun { id, pragmas })
 }

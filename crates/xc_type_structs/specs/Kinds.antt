@@ -5,11 +5,7 @@ use Rattle.xc_tree.specs.declared.ty.Ty.TheOpen.{Ty-F}
 use Rattle.xc_tree.specs.declared.ty.Ty.TheFolds.{fold-Ty}
 use Rattle.xc_tree.specs.Lists.{some}
 use Rattle.xc_tree.specs.Types.{same_ty, holds_pointer}
-use Rattle.xc_tree.specs.Types as types
 use Rattle.xc_type_structs.specs.declared.kinds.Kinds.{Kinds}
-
-abbrev pub is_pointer : Ty → Bool
-is_pointer t = types.is_pointer t
 
 -- a list of cells, told by less ----------------------------------------------
 
@@ -74,9 +70,6 @@ kinds_at table inner t Ty-F.Void = no_kinds
 kinds_at table inner t (Ty-F.Array n of) = inner of
 kinds_at table inner t (Ty-F.Struct s) = listed table s
 kinds_at table inner t _ = one_kind t
-
-abbrev pub level_kinds : List Kinds → Ty → Kinds
-level_kinds table t = kinds_at table (λ of. no_kinds) t (out-Ty t)
 
 -- the kinds of the cells of a type, where these are those of the structs
 abbrev pub kinds_of : List Kinds → Ty → Kinds

@@ -1,4 +1,5 @@
 pub mod Kinds
+pub mod InnerKinds
 pub mod Members
 pub mod Table
 pub mod Agree

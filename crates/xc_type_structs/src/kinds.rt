@@ -3,6 +3,7 @@
 ghost use Rattle.std.specs.Prelude.{◌≡◌, IfOk};
 ghost use Rattle.xc_tree.specs.Types.{holds_pointer};
 ghost use Rattle.xc_type_structs.specs.Kinds as spec;
+ghost use Rattle.xc_type_structs.specs.InnerKinds as inner_spec;
 
 use std::alloc::{AllocError, Global};
 use xc_tree::{Ty, copy_ty};
@@ -27,7 +28,7 @@ pub(crate) fn no_kinds() -> Kinds
 }
 
 fn is_pointer(ty: &Ty) -> bool
-    ensures { result ≡ spec.is_pointer ty.now }
+    ensures { result ≡ inner_spec.is_pointer ty.now }
 {
     match ty {
         Ty::Ptr(_) => true,
@@ -81,7 +82,7 @@ fn listed(alloc: Global, table: &[Kinds], number: u32) -> Result<Kinds, AllocErr
 }
 
 fn level_kinds(alloc: Global, table: &[Kinds], ty: &Ty) -> Result<Kinds, AllocError>
-    ensures { IfOk result (λ r. r ≡ spec.level_kinds table.now ty.now) }
+    ensures { IfOk result (λ r. r ≡ inner_spec.level_kinds table.now ty.now) }
 {
     match ty {
         Ty::Void | Ty::Array(_, _) => Ok(no_kinds()),

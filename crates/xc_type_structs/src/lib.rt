@@ -10,6 +10,3 @@ mod structs;
 pub use kinds::Kinds;
 pub use members::Members;
 pub use structs::{Layout, Structs};
-
-#[cfg(test)]
-mod tests;

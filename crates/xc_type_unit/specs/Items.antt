@@ -1,7 +1,6 @@
 -- What the items of a text make of file scope, one behind another (C99 6.9).
-use Rattle.std.specs.Prelude.{◌≡◌, List, [], ◌∷◌, ◌++◌, Option}
+use Rattle.std.specs.Prelude.{List, [], ◌∷◌, ◌++◌}
 use Rattle.xc_type_rule.specs.declared.fault.Fault.{Fault}
-use Rattle.xc_type_rule.specs.Least.{least_from}
 use Rattle.xc_type_scopes.specs.Judge.{Judge}
 use Rattle.xc_type_unit.specs.declared.scope.FileScope.{FileScope}
 
@@ -29,7 +28,3 @@ by_part j k s = let a = j s.env in let b = k a.part (record s { env = a.env }) i
 unfoldable pub in_turn : List Item → Item
 in_turn [] s = nothing s
 in_turn (i ∷ is) s = let a = i s in let b = in_turn is a.scope in record { scope = b.scope; faults = a.faults ++ b.faults }
-
--- what a call says that follows an item: it leaves what the item makes of file scope, and the least fault
-abbrev pub Does : Item → FileScope → FileScope → Option Fault → Option Fault → Type 0
-Does i before behind was now = (behind ≡ (i before).scope) × (now ≡ least_from was (i before).faults)

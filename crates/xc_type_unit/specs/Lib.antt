@@ -1,4 +1,5 @@
 pub mod Items
+pub mod InnerItems
 pub mod Globals
 pub mod Parameters
 pub mod Functions

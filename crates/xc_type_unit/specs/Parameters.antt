@@ -23,6 +23,7 @@ use Rattle.xc_type_expressions.specs.Types.{bounds}
 use Rattle.xc_type_expressions.specs.Judged.{judged}
 use Rattle.xc_type_expressions.specs.Places.{name_of}
 use Rattle.xc_type_statements.specs.Declarations.{declared_object}
+use Rattle.xc_raw.specs.Kinds.{is_void}
 
 -- types --------------------------------------------------------------------
 
@@ -84,10 +85,6 @@ begun d = object_of d d.name
 -- the next object of the function, with the type that calls ask for
 unfoldable pub parameter : Text → Raw → Judge (Option Ty)
 parameter t node = and_then (described_by t node (out-Raw node).parts) (λ d. mapped (λ x. d.ty) (begun d))
-
-abbrev pub is_void : Word → Bool
-is_void word.Void = true
-is_void _ = false
 
 abbrev pub is_lone : Text → Raw → Bool
 is_lone t node = ((out-Raw node).end == (out-Raw node).first + 1) && is_void (word_at t.source.now t.tokens.now (out-Raw node).first)

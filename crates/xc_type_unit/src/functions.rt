@@ -3,8 +3,8 @@
 ghost use Rattle.std.specs.Prelude.{◌≡◌, map, length, IfOk, OnOk};
 ghost use Rattle.xc_raw.specs.declared.tree.Raw.{out-Raw};
 ghost use Rattle.xc_type_scopes.specs.declared.env.Env.{Env};
-ghost use Rattle.xc_type_scopes.specs.Judge.{Judges};
-ghost use Rattle.xc_type_unit.specs.Items.{Does};
+ghost use Rattle.xc_type_scopes.specs.Judge.{Judges, and_then};
+ghost use Rattle.xc_type_unit.specs.InnerItems.{Does};
 ghost use Rattle.xc_type_unit.specs.Functions as spec;
 
 use crate::heads::{Head, headed, named_function};
@@ -12,6 +12,7 @@ use crate::scope::FileScope;
 use crate::types::copy_known;
 use sqlite_items::{Boxed, Items};
 use std::alloc::{AllocError, Global};
+use xc_hold::{both, kept};
 use xc_raw::{Raw, Rule};
 use xc_raw_parts::callee_name;
 use xc_text_place::Span;
@@ -112,25 +113,28 @@ fn func_of(
     env: &Env,
     head: &Head,
     params: u32,
-    made: Option<Stmt>,
+    made: &Option<Stmt>,
 ) -> Result<Option<Func>, AllocError>
-    ensures { IfOk result (λ r. r ≡ spec.func_of head.now params env.now head.now.ret made) }
+    ensures { IfOk result (λ r. r ≡ spec.func_of head.now params env.now head.now.ret made.now) }
 {
-    let Some(made) = made else {
-        return Ok(None);
-    };
-    let Some(ret) = copy_known(alloc, &head.ret)? else {
-        return Ok(None);
-    };
-    let body = lower_stmt(alloc, env.addressed(), &made)?;
-    let locals = locals_of(alloc, env.locals(), env.addressed())?;
-    Ok(Some(Func {
-        name: head.at,
-        params,
-        locals,
-        ret,
-        body: Boxed::new(alloc, body)?,
-    }))
+    match (&head.ret, made) {
+        (Some(ret), Some(made)) => {
+            let body = Boxed::new(alloc, lower_stmt(alloc, env.addressed(), made)?);
+            let locals = locals_of(alloc, env.locals(), env.addressed());
+            let (locals, body) = both(locals, body)?;
+            let (ret, (locals, body)) = kept(copy_ty(alloc, ret), (locals, body))?;
+            Ok(Some(Func {
+                name: head.at,
+                params,
+                locals,
+                ret,
+                body,
+            }))
+        }
+        (Some(_), None) => Ok(None),
+        (None, Some(_)) => Ok(None),
+        (None, None) => Ok(None),
+    }
 }
 
 #[tactic(auto, using(crate::proofs::Turns::node_rules), unfolding(crate::specs::Functions::bodied))]
@@ -152,8 +156,12 @@ fn bodied(
         return Err(AllocError);
     }
     let answer = Answer::Function(copy_known(alloc, &head.ret)?);
-    let made = body(alloc, text, env, block, &answer, false, first)?;
-    func_of(alloc, env, head, params as u32, made)
+    let made = body(alloc, text, env, block, &answer, false, first);
+    drop(answer);
+    let made = made?;
+    let func = func_of(alloc, env, head, params as u32, &made);
+    drop(made);
+    func
 }
 
 #[tactic(auto, using(crate::proofs::Turns::node_rules), unfolding(crate::specs::Functions::defined_as))]
@@ -178,6 +186,24 @@ fn defined_as(
     }
 }
 
+// The name stands for the function from its own body on.
+#[tactic(auto, using(crate::proofs::Turns::node_rules))]
+fn name_and_define(
+    alloc: Global,
+    text: &Text,
+    bodies: &Scopes<u32>,
+    number: u32,
+    env: &mut Env,
+    head: &Head,
+    nodes: &[Raw],
+    first: &mut Option<Fault>,
+) -> Result<Option<Items<Func>>, AllocError>
+    ensures { IfOk result (λ r. Judges (and_then (spec.named_function text.now bodies.now head.now head.now.name) (λ x. spec.defined_as text.now bodies.now number head.now nodes.now)) env.old env.new first.old first.new r) }
+{
+    named_function(alloc, text, bodies, env, head, first)?;
+    defined_as(alloc, text, bodies, number, env, head, nodes, first)
+}
+
 #[tactic(auto, using(crate::proofs::Turns::node_rules), unfolding(crate::specs::Functions::inner))]
 fn inner(
     alloc: Global,
@@ -193,10 +219,11 @@ fn inner(
 ) -> Result<Option<Items<Func>>, AllocError>
     ensures { IfOk result (λ r. Judges (spec.inner text.now bodies.now number base callee.now params.now nodes.now) env.old env.new first.old first.new r) }
 {
-    env.begin_function(alloc)?;
+    let ((), base) = kept(env.begin_function(alloc), base)?;
     let head = headed(alloc, text, env, base, callee, params, first)?;
-    named_function(alloc, text, bodies, env, &head, first)?;
-    let made = defined_as(alloc, text, bodies, number, env, &head, nodes, first)?;
+    let made = name_and_define(alloc, text, bodies, number, env, &head, nodes, first);
+    drop(head);
+    let made = made?;
     env.end_function(alloc);
     Ok(made)
 }

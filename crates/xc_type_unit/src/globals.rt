@@ -4,13 +4,14 @@ ghost use Rattle.std.specs.Prelude.{◌≡◌, map, length, IfOk, OnOk};
 ghost use Rattle.xc_raw.specs.declared.tree.Raw.{out-Raw};
 ghost use Rattle.xc_type_initialiser_objects.specs.Cells.{started as started_of};
 ghost use Rattle.xc_type_scopes.specs.Judge.{Judges};
-ghost use Rattle.xc_type_unit.specs.Items.{Does};
+ghost use Rattle.xc_type_unit.specs.InnerItems.{Does};
 ghost use Rattle.xc_type_unit.specs.Globals as spec;
 
 use crate::scope::{FileScope, fits};
 use crate::types::copy_known;
 use sqlite_items::Items;
 use std::alloc::{AllocError, Global};
+use xc_hold::kept;
 use xc_raw::Raw;
 use xc_text_place::Span;
 use xc_tree::{Ty, copy_ty};
@@ -115,7 +116,8 @@ fn begun_unknown(
     match nodes {
         [] => Ok(()),
         [node, ..] => {
-            let _ = global_inits(alloc, text, env, node, None, first)?;
+            // An object of unknown type has no words; only the faults of its initialiser count.
+            drop(global_inits(alloc, text, env, node, None, first)?);
             Ok(())
         }
     }
@@ -137,7 +139,8 @@ fn begins(
         None => begun_unknown(alloc, text, &mut scope.env, nodes, first),
         Some(ty) => {
             let fitting = fits(scope.cells_with(&ty));
-            let init = begun(alloc, text, &mut scope.env, fitting, &ty, nodes, first)?;
+            let init = begun(alloc, text, &mut scope.env, fitting, &ty, nodes, first);
+            let (init, ty) = kept(init, ty)?;
             scope.add_object(at, ty, init)
         }
     }
@@ -157,10 +160,11 @@ fn global(
     match node.parts.as_slice() {
         [] => Ok(()),
         [declarator, rest @ ..] => {
-            let one = declared(alloc, text, &mut scope.env, declarator, base, first)?;
             let number = scope.next_global()?;
-            named_global(alloc, &mut scope.env, number, &one, first)?;
+            let one = declared(alloc, text, &mut scope.env, declarator, base, first)?;
+            let named = named_global(alloc, &mut scope.env, number, &one, first);
             let Declared { name: _, at, ty } = one;
+            let ((), ty) = kept(named, ty)?;
             begins(alloc, text, scope, at, ty, rest, first)
         }
     }
@@ -198,7 +202,9 @@ pub(crate) fn declaration(
         [] => Ok(()),
         [specs, rest @ ..] => {
             let base = specified(alloc, text, &mut scope.env, specs, true, first)?;
-            globals(alloc, text, scope, rest, &base, first)
+            let done = globals(alloc, text, scope, rest, &base, first);
+            drop(base);
+            done
         }
     }
 }

@@ -12,6 +12,7 @@ use crate::parameters::parameters;
 use crate::types::{copy_all, copy_known};
 use sqlite_items::Items;
 use std::alloc::{AllocError, Global};
+use xc_hold::{both, kept};
 use xc_raw::Raw;
 use xc_raw_parts::{callee_name, span_of, star_words};
 use xc_text_place::Span;
@@ -152,8 +153,8 @@ pub(crate) fn named_function(
         None => Ok(()),
         Some(name) => {
             note_head(text, env, head, name, first);
-            let params = copy_all(alloc, head.params.as_slice())?;
-            let ret = copy_known(alloc, &head.ret)?;
+            let params = copy_all(alloc, head.params.as_slice());
+            let (params, ret) = both(params, copy_known(alloc, &head.ret))?;
             let number = found_body(bodies, name);
             let thing = Thing::Func {
                 number,
@@ -173,9 +174,11 @@ fn result_of(
 ) -> Result<Typing, AllocError>
     ensures { IfOk result (λ r. r ≡ spec.result_of text.now base callee.now) }
 {
-    let stars = star_words(alloc, text.source, text.tokens, callee.first, callee.end)?;
-    let pointed = pointer_typing(alloc, base, stars.as_slice())?;
-    Ok(result_typing(pointed))
+    let stars = star_words(alloc, text.source, text.tokens, callee.first, callee.end);
+    let (stars, base) = kept(stars, base)?;
+    let pointed = pointer_typing(alloc, base, stars.as_slice());
+    drop(stars);
+    Ok(result_typing(pointed?))
 }
 
 /// What a function is by its result and its parameters, which are its first objects.
@@ -191,9 +194,11 @@ pub(crate) fn headed(
 ) -> Result<Head, AllocError>
     ensures { IfOk result (λ r. Judges (spec.headed text.now base callee.now params.now) env.old env.new first.old first.new r) }
 {
-    let params = parameters(alloc, text, env, params.parts.as_slice(), first)?;
+    let params = parameters(alloc, text, env, params.parts.as_slice(), first);
+    let (params, base) = kept(params, base)?;
     let span = span_of(text.tokens, callee);
-    let ret = told(span, result_of(alloc, text, base, callee)?, first);
+    let (typing, params) = kept(result_of(alloc, text, base, callee), params)?;
+    let ret = told(span, typing, first);
     let token = callee_name(text.tokens, callee);
     Ok(Head {
         name: text.name_at(token),

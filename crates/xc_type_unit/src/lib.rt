@@ -15,8 +15,3 @@ pub use heads::{Head, main_of};
 pub use scope::FileScope;
 pub use text::{Whole, outer};
 pub use types::copy_known;
-
-#[cfg(test)]
-mod statement_tests;
-#[cfg(test)]
-mod tests;

@@ -8,6 +8,7 @@ ghost use Rattle.xc_type_unit.specs.Parameters as spec;
 
 use sqlite_items::Items;
 use std::alloc::{AllocError, Global};
+use xc_hold::kept;
 use xc_raw::{Raw, Word};
 use xc_raw_parts::{
     Brackets, declarator_span, first_brackets, parameter_name, spot, star_words, word_at,
@@ -21,6 +22,14 @@ use xc_type_expressions::{Declared, Text, bounds_found, specified};
 use xc_type_rule::Fault;
 use xc_type_scopes::Env;
 use xc_type_statements::declare;
+
+/// The declarator of a parameter: the parameter's node, the first token behind the specifiers, and the bounds.
+#[derive(Drop)]
+struct Declarator<'a> {
+    node: &'a Raw,
+    from: u32,
+    bounds: &'a [Bound],
+}
 
 fn behind_first(bounds: &[Bound]) -> &[Bound]
     ensures { result.now ≡ spec.behind_first bounds.now }
@@ -70,18 +79,19 @@ fn typed_by(
     alloc: Global,
     text: &Text,
     env: &Env,
-    node: &Raw,
     base: Option<Ty>,
-    from: u32,
-    bounds: &[Bound],
+    declarator: &Declarator,
     first: &mut Option<Fault>,
 ) -> Result<Declared, AllocError>
-    ensures { IfOk result (λ r. Judges (spec.typed_by text.now node.now base from bounds.now) env.now env.now first.old first.new r) }
+    ensures { IfOk result (λ r. Judges (spec.typed_by text.now declarator.now.node.now base declarator.now.from declarator.now.bounds.now) env.now env.now first.old first.new r) }
 {
-    let stars = star_words(alloc, text.source, text.tokens, from, node.end)?;
-    let pointed = pointer_typing(alloc, base, stars.as_slice())?;
+    let Declarator { node, from, bounds } = *declarator;
+    let stars = star_words(alloc, text.source, text.tokens, from, node.end);
+    let (stars, base) = kept(stars, base)?;
+    let pointed = pointer_typing(alloc, base, stars.as_slice());
+    drop(stars);
     let brackets = first_brackets(text.source, text.tokens, node);
-    let typing = parameter_typing(alloc, env.structs().sizes(), pointed, brackets, bounds)?;
+    let typing = parameter_typing(alloc, env.structs().sizes(), pointed?, brackets, bounds)?;
     note_bounds(bounds, first);
     let ty = told(declarator_span(text.tokens, node), typing, first);
     let token = parameter_name(text.tokens, node);
@@ -110,17 +120,13 @@ fn described(
         }),
         [specs, rest @ ..] => {
             let base = specified(alloc, text, env, specs, false, first)?;
-            let found = bounds_found(alloc, text, env, rest, first)?;
-            typed_by(
-                alloc,
-                text,
-                env,
+            let (bounds, base) = kept(bounds_found(alloc, text, env, rest, first), base)?;
+            let declarator = Declarator {
                 node,
-                base,
-                specs.end,
-                found.as_slice(),
-                first,
-            )
+                from: specs.end,
+                bounds: bounds.as_slice(),
+            };
+            typed_by(alloc, text, env, base, &declarator, first)
         }
     }
 }
@@ -131,6 +137,7 @@ fn unnamed(alloc: Global, env: &mut Env, at: Span, ty: &Option<Ty>) -> Result<()
     match ty {
         None => Ok(()),
         Some(ty) => {
+            // Nothing names the object, so nothing asks for its number.
             let _ = env.add_local(at, copy_ty(alloc, ty)?)?;
             Ok(())
         }
@@ -149,6 +156,7 @@ fn begun(
     match declared.name {
         None => unnamed(alloc, env, declared.at, &declared.ty),
         Some(_) => {
+            // The caller gives a parameter its value, so no initialiser asks for its number.
             let _ = declare(alloc, env, declared, first)?;
             Ok(())
         }
@@ -166,8 +174,9 @@ fn parameter(
     ensures { IfOk result (λ r. Judges (spec.parameter text.now node.now) env.old env.new first.old first.new r) }
 {
     let one = described(alloc, text, env, node, first)?;
-    begun(alloc, env, &one, first)?;
+    let begun = begun(alloc, env, &one, first);
     let Declared { name: _, at: _, ty } = one;
+    let ((), ty) = kept(begun, ty)?;
     Ok(ty)
 }
 

@@ -3,7 +3,7 @@
 ghost use Rattle.std.specs.Prelude.{◌≡◌, ◌<◌, ◌^◌, map, length, IfOk, OnOk};
 ghost use Rattle.xc_type_rule.specs.Least.{least_from};
 ghost use Rattle.xc_raw.specs.declared.tree.Raw.{out-Raw};
-ghost use Rattle.xc_type_unit.specs.Items.{Does};
+ghost use Rattle.xc_type_unit.specs.InnerItems.{Does};
 ghost use Rattle.xc_type_unit.specs.Functions as functions;
 ghost use Rattle.xc_type_unit.specs.Texts as spec;
 
@@ -12,6 +12,7 @@ use crate::globals::declaration;
 use crate::heads::{found_body, main_of};
 use crate::scope::FileScope;
 use std::alloc::{AllocError, Global};
+use xc_hold::kept;
 use xc_raw::{Raw, Rule};
 use xc_raw_parts::span_of;
 use xc_text_place::Span;
@@ -82,6 +83,40 @@ fn end_of(text: &Text) -> Span
     Span { start: end, end }
 }
 
+// The items, and no pragma before a loop behind the last one.
+#[tactic(auto, using(crate::proofs::Turns::node_rules))]
+fn all_items(
+    alloc: Global,
+    text: &Text,
+    bodies: &Scopes<u32>,
+    scope: &mut FileScope,
+    nodes: &[Raw],
+    first: &mut Option<Fault>,
+) -> Result<(), AllocError>
+    ensures scope { OnOk result (scope.new ≡ spec.past_pragmas (spec.items text.now bodies.now nodes.now scope.old).scope) }
+    ensures first { OnOk result (first.new ≡ least_from first.old (spec.items text.now bodies.now nodes.now scope.old).faults) }
+{
+    items(alloc, text, bodies, scope, nodes, first)?;
+    scope.env.pass_pragmas(alloc)
+}
+
+#[tactic(auto, using(crate::proofs::Turns::node_rules))]
+fn file_scope(
+    alloc: Global,
+    text: &Text,
+    bodies: &Scopes<u32>,
+    nodes: &[Raw],
+    first: &mut Option<Fault>,
+) -> Result<FileScope, AllocError>
+    ensures scope { IfOk result (λ r. r ≡ spec.past_pragmas (spec.items text.now bodies.now nodes.now spec.empty).scope) }
+    ensures first { OnOk result (first.new ≡ least_from first.old (spec.items text.now bodies.now nodes.now spec.empty).faults) }
+{
+    let mut scope = FileScope::new(alloc)?;
+    let done = all_items(alloc, text, bodies, &mut scope, nodes, first);
+    let ((), scope) = kept(done, scope)?;
+    Ok(scope)
+}
+
 /// What a text makes of file scope: its node `Unit`. All its faults count.
 #[tactic(auto, using(crate::proofs::Turns::node_rules), unfolding(crate::specs::Texts::whole_by))]
 pub fn outer(
@@ -97,10 +132,10 @@ pub fn outer(
 {
     let nodes = node.parts.as_slice();
     let bodies = bodies_of(alloc, text, nodes)?;
-    let mut scope = FileScope::new(alloc)?;
-    items(alloc, text, &bodies, &mut scope, nodes, first)?;
-    scope.env.pass_pragmas(alloc)?;
+    let scope = file_scope(alloc, text, &bodies, nodes, first);
     let main = main_in(text, &bodies);
+    drop(bodies);
+    let scope = scope?;
     note_name_unless(main.is_some(), end_of(text), first);
     Ok(Whole { scope, main })
 }

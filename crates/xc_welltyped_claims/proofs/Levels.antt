@@ -17,6 +17,7 @@ use Rattle.xc_tree.specs.Lists.{every}
 use Rattle.xc_tree.proofs.Lists.{and_both}
 use Rattle.xc_raw_parts.specs.Words.{specifier_words}
 use Rattle.xc_type_declarators.specs.Specifiers.{often}
+use Rattle.xc_raw.specs.Kinds as kinds
 use Rattle.xc_type_declarators.specs.Specifiers as words
 use Rattle.xc_raw_parts.specs.Names.{struct_name, callee_name, declarator_name, captured_names}
 use Rattle.xc_raw_parts.specs.Operators.{binary_operator, assign_operator}
@@ -127,7 +128,7 @@ module _ (t : Text) (node : Raw) where
       (and_both (is_callee (rule_in b)) _ (ap is_callee h.1.0)
       (and_both (is_params (rule_in c)) _ (ap is_params h.1.1.0) (one_over is_block (class.Node rule.Block) block_node ns h.1.1.1)))
 
-  pub specs_level : (ns : List Raw) → IsTrue (often words.is_struct (specifier_words t.source.now t.tokens.now node) == length ns) → Holds rule.Specs ns → Ok rule.Specs ns
+  pub specs_level : (ns : List Raw) → IsTrue (often kinds.is_struct (specifier_words t.source.now t.tokens.now node) == length ns) → Holds rule.Specs ns → Ok rule.Specs ns
   unfolding level_ok
   specs_level ns e h = and_both (all_of is_struct ns) _ (all_over is_struct (rule_of rule.Specs) ((tt, struct_class), (tt, struct_class)) ns h) e
 

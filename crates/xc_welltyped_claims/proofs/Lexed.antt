@@ -14,7 +14,7 @@ use Rattle.xc_tree.specs.Formats.{integers_taken}
 use Rattle.xc_type_names.specs.Numbered.{Numbered, numbered, spellings, text_of}
 use Rattle.xc_type_names.specs.Numbered as named
 use Rattle.xc_type_literals.specs.declared.texts.Literal.{Literal}
-use Rattle.xc_type_literals.specs.Constants.{stretch_eq}
+use Rattle.xc_text_place.specs.Stretches.{stretch_eq}
 use Rattle.xc_type_literals.specs.Texts.{is_text_kind, is_text, stretch, stretches, numbers_of, number_in, literal_of, text_at, formats_of, all_taken}
 use Rattle.xc_type_literals.specs.Texts as texts
 use Rattle.xc_raw_parts.specs.Words.{word_in}

@@ -38,6 +38,7 @@ use Rattle.xc_type_literals.specs.Constants.{constants_of}
 use Rattle.xc_type_literals.specs.Texts.{numbers_of}
 use Rattle.xc_raw_parts.specs.Words.{word_in, words_around, specifier_words}
 use Rattle.xc_type_declarators.specs.Specifiers.{often}
+use Rattle.xc_raw.specs.Kinds as kinds
 use Rattle.xc_type_declarators.specs.Specifiers as words
 use Rattle.xc_raw_parts.specs.declared.operators.Suffix.TheVariants as suffix
 use Rattle.xc_raw_parts.specs.Spans.{word_at}
@@ -266,10 +267,10 @@ module _ (t : Text) (names : t.names.now ≡ numbered t.source.now t.tokens.now)
       let same : a ≡ m = cc in
       subst (λ k. IsTrue (begins_with_star (stars_in t (out-Raw k).end (out-Raw n).end))) same (head_starts source tokens xs (out-Raw a).end (out-Raw n).end p.2 (param_head xs h.1))
 
-  specs_are : (n : Raw) (xs : List Piece) → Of n xs → At n xs → In rule.Specs xs → IsTrue (often words.is_struct (specifier_words source tokens n) == length (nodes xs))
+  specs_are : (n : Raw) (xs : List Piece) → Of n xs → At n xs → In rule.Specs xs → IsTrue (often kinds.is_struct (specifier_words source tokens n) == length (nodes xs))
   specs_are n xs e p h =
       let same : specifier_words source tokens n ≡ spelled xs = ap (λ ps. words_around source tokens (out-Raw n).first (out-Raw n).end ps) e ∙ words_are source tokens xs (out-Raw n).first (out-Raw n).end p in
-      eq-eqb (often words.is_struct (specifier_words source tokens n)) (length (nodes xs)) (ap (often words.is_struct) same ∙ specs_counted xs h)
+      eq-eqb (often kinds.is_struct (specifier_words source tokens n)) (length (nodes xs)) (ap (often kinds.is_struct) same ∙ specs_counted xs h)
 
   -- a node of a rule has its shape ------------------------------------------------------------------
 

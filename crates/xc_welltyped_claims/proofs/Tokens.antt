@@ -25,7 +25,8 @@ use Rattle.xc_tree.specs.Lists.{every}
 use Rattle.xc_tree.proofs.Lists.{and_left, and_right}
 use Rattle.xc_type_names.specs.Numbered.{Numbered, numbered, spellings, reserved, text_of}
 use Rattle.xc_type_names.specs.Numbered as named
-use Rattle.xc_type_literals.specs.Constants.{constants_of, constant_at, stretch_eq, is_number_kind}
+use Rattle.xc_type_literals.specs.Constants.{constants_of, constant_at, is_number_kind}
+use Rattle.xc_text_place.specs.Stretches.{stretch_eq}
 use Rattle.xc_type_literals.specs.Constants as values
 use Rattle.xc_type_literals.specs.Texts.{is_text_kind, is_text, stretch, stretches, numbers_of, number_in, literal_of}
 use Rattle.xc_raw_parts.specs.Names.{name_at, is_name_kind}

@@ -26,7 +26,7 @@ use Rattle.xc_parse_grammar.proofs.Tables.{same_word}
 use Rattle.xc_tree.specs.Lists.{every}
 use Rattle.xc_tree.proofs.Lists.{and_left, and_right, and_both}
 use Rattle.xc_raw_parts.specs.Words.{words_in, is_of_stars, leading, star_words}
-use Rattle.xc_type_declarators.specs.Specifiers.{is_struct}
+use Rattle.xc_raw.specs.Kinds.{is_struct}
 use Rattle.xc_raw_parts.specs.Names.{is_name_kind, names_from, first_name}
 use Rattle.xc_raw_parts.specs.Operators.{operator_of, assignment_of, prefix_of}
 use Rattle.xc_welltyped_claims.specs.Shaped.{begins_with_star}

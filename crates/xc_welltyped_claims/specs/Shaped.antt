@@ -12,6 +12,7 @@ use Rattle.xc_tree.specs.Lists.{every}
 use Rattle.xc_tree.specs.Formats.{integers_taken}
 use Rattle.xc_raw_parts.specs.Words.{word_in, specifier_words, star_words}
 use Rattle.xc_type_declarators.specs.Specifiers.{often}
+use Rattle.xc_raw.specs.Kinds as kinds
 use Rattle.xc_type_declarators.specs.Specifiers as words
 use Rattle.xc_type_literals.specs.declared.texts.Literal.{Literal}
 use Rattle.xc_type_literals.specs.Constants.{constant_at}
@@ -170,7 +171,7 @@ level_ok t node rule.Pragma ps = none_of ps
 level_ok t node rule.Declaration (specs ∷ ds) = is_specs (rule_in specs) && all_of is_dinit ds
 level_ok t node rule.Function (specs ∷ callee ∷ params ∷ rest) = is_specs (rule_in specs)
     && (is_callee (rule_in callee) && (is_params (rule_in params) && one_at_most is_block rest))
-level_ok t node rule.Specs ps = all_of is_struct ps && (often words.is_struct (specifier_words t.source.now t.tokens.now node) == length ps)
+level_ok t node rule.Specs ps = all_of is_struct ps && (often kinds.is_struct (specifier_words t.source.now t.tokens.now node) == length ps)
 level_ok t node rule.Struct ps = all_of is_member ps && is_named t (struct_name t.tokens.now node)
 level_ok t node rule.Member (specs ∷ d ∷ ds) = is_specs (rule_in specs) && all_of is_declr (d ∷ ds)
 level_ok t node rule.Declr ps = all_of is_expr ps

@@ -4,7 +4,8 @@ use Rattle.std.specs.Prelude.{IsTrue, Option, Some, None, option_map}
 use Rattle.xc_tree.specs.declared.ty.Ty.{Ty, Struct}
 use Rattle.xc_tree.specs.Types.{is_number}
 use Rattle.xc_raw.specs.declared.word.Word.{Word}
-use Rattle.xc_type_declarators.specs.Specifiers.{is_sync, is_future, lacks, is_void_alone, is_struct_alone, is_integer, is_unsigned, basic_of, mark_of, base_ty}
+use Rattle.xc_type_declarators.specs.Specifiers.{is_sync, lacks, is_void_alone, is_struct_alone, is_integer, is_unsigned, basic_of, mark_of, base_ty}
+use Rattle.xc_raw.specs.Kinds.{is_future}
 use Rattle.xc_welltyped.proofs.Types.{ty_opened}
 
 module _ (ws : List Word) where

@@ -17,7 +17,8 @@ use Rattle.xc_type_literals.specs.Constants.{constant_at}
 use Rattle.xc_type_declarators.specs.Specifiers.{base_ty}
 use Rattle.xc_raw_parts.specs.Spans.{span_of}
 use Rattle.xc_raw_parts.specs.Operators.{binary_operator, prefix_operator}
-use Rattle.xc_type_constants.specs.Pieces.{Piece, cast_to, strange_piece, piece_by, piece_in, pieces_in}
+use Rattle.xc_type_constants.specs.Pieces.{Piece, cast_to, strange_piece, piece_by, piece_in}
+use Rattle.xc_type_constants.specs.InnerPieces.{pieces_in}
 use Rattle.xc_type_scopes.specs.declared.env.Env.{Env}
 use Rattle.xc_type_scopes.specs.Judge.{Judge, give, and_then}
 use Rattle.xc_type_scopes.specs.Told.{anywhere}

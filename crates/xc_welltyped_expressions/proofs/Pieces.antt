@@ -12,7 +12,8 @@ use Rattle.xc_tree.specs.Lists.{passes}
 use Rattle.xc_tree.specs.Types.{is_number}
 use Rattle.xc_tree.specs.Typed.{sort_of}
 use Rattle.xc_tree.proofs.Lists.{and_both}
-use Rattle.xc_tree_words.specs.Words.{truth, unary_word, binary_word, is_uint}
+use Rattle.xc_tree_words.specs.Words.{unary_word, binary_word, is_uint}
+use Rattle.xc_word.specs.Numbers.{truth}
 use Rattle.xc_raw.specs.declared.word.Word.{Word}
 use Rattle.xc_tree_words.specs.Constants.{chosen, is_true}
 use Rattle.xc_type_rule.specs.declared.fault.Fault.{Fault}

@@ -10,6 +10,7 @@ use Rattle.xc_raw.specs.declared.tree.Raw.{Raw}
 use Rattle.xc_raw.specs.declared.word.Word.{Word}
 use Rattle.xc_raw_parts.specs.Words.{specifier_words}
 use Rattle.xc_type_rule.specs.Least.{fault_unless}
+use Rattle.xc_raw.specs.Kinds as kinds
 use Rattle.xc_type_declarators.specs.Specifiers as words
 use Rattle.xc_type_declarators.specs.Specifiers.{often, base_ty, are_sound, specifier_faults}
 use Rattle.xc_type_scopes.specs.declared.env.Env.{Env}
@@ -98,7 +99,7 @@ module _ (t : Text) where
         let xs : List Tagged = (j e).part in
         let v : Env = (j e).env in
         let a = tags_given ns h (and_left (all_of is_struct ns) _ l) e g (clean_first j k e c (λ xs e h. h)) (kept_if span (all_fit xs) (none_right (specifier_faults outermost span ws) _ none)) in
-        let many : often words.is_struct ws ≡ length (numbers xs) = eqb-true (often words.is_struct ws) (length ns) (and_right (all_of is_struct ns) _ l)
+        let many : often kinds.is_struct ws ≡ length (numbers xs) = eqb-true (often kinds.is_struct ws) (length ns) (and_right (all_of is_struct ns) _ l)
         ∙ sym (map_many (λ (x : Tagged). x.number) xs ∙ each_many (structs_of ns) e ∙ map_many (λ (r : Role). r.struct) (map (judged t) ns) ∙ map_many (judged t) ns) in
         let b = specified_base v.structs.sizes ws (numbers xs) outermost (kept_if span (are_sound outermost ws) (none_left (specifier_faults outermost span ws) _ none)) many (below v.structs.sizes xs a.holds.0) in
         record {

@@ -10,6 +10,7 @@ use Rattle.xc_raw.specs.declared.word.Word.{Word}
 use Rattle.xc_raw.specs.declared.word.Word.TheVariants as word
 use Rattle.xc_raw.specs.declared.word.Qualifier.TheVariants as qualifier
 use Rattle.xc_raw.specs.declared.word.Specifier.TheVariants as specifier
+use Rattle.xc_raw.specs.Kinds as kinds
 use Rattle.xc_type_declarators.specs.Specifiers as words
 use Rattle.xc_type_declarators.specs.Specifiers.{often, marked, both, basic_of, mark_of, specified, specified_ty, basic_ty, base_ty, are_sound}
 use Rattle.xc_type_declarators.specs.Declarators.{closed, pointed_step, start, pointer_typing}
@@ -58,26 +59,26 @@ module _ (ns : List ℕ) where
   plain_base : (number : Option ℕ) → Base (option_map Struct number) → Base (option_map (λ t. t) (option_map Struct number))
   plain_base number b = (b.0, ap (option_map (λ t. t)) b.1, b.2)
 
-  given : (ws : List Word) (number : Option ℕ) → (often words.is_struct ws ≡ 1 → (s : ℕ) × (number ≡ Some s) × IsTrue (nat_lt s (length ns))) →
+  given : (ws : List Word) (number : Option ℕ) → (often kinds.is_struct ws ≡ 1 → (s : ℕ) × (number ≡ Some s) × IsTrue (nat_lt s (length ns))) →
       IsTrue (is_some (both (basic_of ws) (mark_of ws))) → Base (specified_ty (both (basic_of ws) (mark_of ws)) number)
   unfolding basic_of mark_of
   given ws number f = basic_by (λ o. IsTrue (is_some (both o (mark_of ws))) → Base (specified_ty (both o (mark_of ws)) number))
       (words.is_void_alone ws) (words.is_struct_alone ws) (words.is_integer ws) (words.lacks words.is_unsigned ws) _ _ _ _
       (mark_by (λ m. IsTrue (is_some (both (basic_of (word.Void ∷ [])) m)) → Base (specified_ty (both (basic_of (word.Void ∷ [])) m) number))
-      (words.lacks words.is_sync ws) (words.lacks words.is_future ws) _ _ _ (λ h. void_base) (λ h. absurd cc) (λ h. absurd cc) (λ h. absurd cc))
+      (words.lacks words.is_sync ws) (words.lacks kinds.is_future ws) _ _ _ (λ h. void_base) (λ h. absurd cc) (λ h. absurd cc) (λ h. absurd cc))
       (λ one. mark_by (λ m. IsTrue (is_some (both (basic_of (word.Struct ∷ [])) m)) → Base (specified_ty (both (basic_of (word.Struct ∷ [])) m) number))
-      (words.lacks words.is_sync ws) (words.lacks words.is_future ws) _ _ _
-      (λ h. plain_base number (struct_base number (f (eqb-true (often words.is_struct ws) 1 (and_left (often words.is_struct ws == 1) _ one)))))
+      (words.lacks words.is_sync ws) (words.lacks kinds.is_future ws) _ _ _
+      (λ h. plain_base number (struct_base number (f (eqb-true (often kinds.is_struct ws) 1 (and_left (often kinds.is_struct ws == 1) _ one)))))
       (λ h. absurd cc) (λ h. absurd cc) (λ h. absurd cc))
       (mark_by (λ m. IsTrue (is_some (both (basic_of (word.Specifier specifier.Int ∷ [])) m)) → Base (specified_ty (both (basic_of (word.Specifier specifier.Int ∷ [])) m) number))
-      (words.lacks words.is_sync ws) (words.lacks words.is_future ws) _ _ _
+      (words.lacks words.is_sync ws) (words.lacks kinds.is_future ws) _ _ _
       (λ h. kept_base Int (int_kept ns)) (λ h. kept_base (Future Int) (future_kept ns Int (int_kept ns) int_plain)) (λ h. kept_base (Sync Int) (sync_kept ns Int (int_kept ns) int_plain)) (λ h. absurd cc))
       (mark_by (λ m. IsTrue (is_some (both (basic_of (word.Specifier specifier.Unsigned ∷ [])) m)) → Base (specified_ty (both (basic_of (word.Specifier specifier.Unsigned ∷ [])) m) number))
-      (words.lacks words.is_sync ws) (words.lacks words.is_future ws) _ _ _
+      (words.lacks words.is_sync ws) (words.lacks kinds.is_future ws) _ _ _
       (λ h. kept_base Uint (uint_kept ns)) (λ h. kept_base (Future Uint) (future_kept ns Uint (uint_kept ns) uint_plain)) (λ h. kept_base (Sync Uint) (sync_kept ns Uint (uint_kept ns) uint_plain)) (λ h. absurd cc))
       (λ h. absurd cc)
 
-  pub specified_base : (ws : List Word) (numbers : List ℕ) (outermost : Bool) → IsTrue (are_sound outermost ws) → often words.is_struct ws ≡ length numbers → Each (λ n. IsTrue (nat_lt n (length ns))) numbers →
+  pub specified_base : (ws : List Word) (numbers : List ℕ) (outermost : Bool) → IsTrue (are_sound outermost ws) → often kinds.is_struct ws ≡ length numbers → Each (λ n. IsTrue (nat_lt n (length ns))) numbers →
       (ty : Ty) × (base_ty ws (slice_get numbers 0) ≡ Some ty) × IsTrue (is_void ty || may_be_pointed_to ns ty)
   unfolding are_sound base_ty
   specified_base ws numbers outermost h many each = given ws (slice_get numbers 0)

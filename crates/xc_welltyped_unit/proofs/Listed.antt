@@ -19,7 +19,8 @@ use Rattle.xc_raw_parts.specs.Spans.{word_at}
 use Rattle.xc_type_scopes.specs.declared.env.Env.{Env}
 use Rattle.xc_type_scopes.specs.Judge.{Judge, give, and_then, each}
 use Rattle.xc_type_expressions.specs.declared.text.Text.{Text}
-use Rattle.xc_type_unit.specs.Parameters.{is_void, is_lone, parameter, all_parameters, parameters}
+use Rattle.xc_type_unit.specs.Parameters.{is_lone, parameter, all_parameters, parameters}
+use Rattle.xc_raw.specs.Kinds.{is_void}
 use Rattle.xc_welltyped_claims.specs.Lists.{Each}
 use Rattle.xc_welltyped_claims.specs.Things.{SeenThing}
 use Rattle.xc_welltyped_claims.specs.Env.{Covers}

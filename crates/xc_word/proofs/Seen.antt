@@ -14,7 +14,8 @@ use Rattle.xc_word.specs.declared.memory.Cell.{Cell}
 use Rattle.xc_word.specs.declared.memory.Place.{Place}
 use Rattle.xc_word.specs.declared.memory.Access.{Access}
 use Rattle.xc_word.specs.Cells.{Segments, cell_at, put_in, fresh}
-use Rattle.xc_word.specs.Table.{on_cell, outcome, outcome_in, left_by, cells_left}
+use Rattle.xc_word.specs.Table.{on_cell, outcome, left_by}
+use Rattle.xc_word.specs.InnerTable.{outcome_in, cells_left}
 use Rattle.xc_word.proofs.Maps.{assign-get}
 
 abbrev pub items_of : List (ℕ × Vec Cell) → List (ℕ × List Cell)

@@ -1,5 +1,5 @@
 -- What an access does: the access modes of R. Alverson and others, The Tera Computer System, 1990, and purge.
-use Rattle.std.specs.Prelude.{ℕ, List, slice_get, slice_set, true, false, Option, Some, None, ◌+◌, ◌%◌, ◌^◌, if◌then◌else◌}
+use Rattle.std.specs.Prelude.{ℕ, true, false, Option, Some, None, ◌+◌, ◌%◌, ◌^◌, if◌then◌else◌}
 use Rattle.std.specs.Option.{option_map}
 use Rattle.xc_word.specs.declared.memory.Cell.{Cell}
 use Rattle.xc_word.specs.declared.memory.Place.{Place}
@@ -29,10 +29,6 @@ on_cell WriteFf v c = if c.full then Some (0, full_with v) else None
 on_cell Purge v c = Some (0, empty_with 0)
 on_cell Add v c = if c.full then Some (c.value, full_with ((c.value + v) % 2 ^ 64)) else None
 
--- what comes of an access to the cells of its segment; none: they do not have its place, some none: it waits
-abbrev pub outcome_in : List Cell → Access → Option (Option (ℕ × Cell))
-outcome_in cells act = option_map (on_cell act.kind act.value) (slice_get cells act.place.off)
-
 -- what comes of an access; none: no live segment has the place, some none: it waits
 abbrev pub outcome : Segments → Access → Option (Option (ℕ × Cell))
 outcome m act = option_map (on_cell act.kind act.value) (cell_at m act.place)
@@ -48,9 +44,3 @@ abbrev pub left_by : Segments → Place → Option (Option (ℕ × Cell)) → Se
 left_by m p None = m
 left_by m p (Some None) = m
 left_by m p (Some (Some x)) = put_cell m p x.1
-
--- the cells of the segment afterwards
-abbrev pub cells_left : List Cell → ℕ → Option (Option (ℕ × Cell)) → List Cell
-cells_left cells off None = cells
-cells_left cells off (Some None) = cells
-cells_left cells off (Some (Some x)) = slice_set cells off x.1

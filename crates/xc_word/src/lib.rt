@@ -6,6 +6,3 @@
 mod memory;
 
 pub use memory::{Access, AddFault, Applied, Cell, Dead, Kind, Memory, Place, Word};
-
-#[cfg(test)]
-mod tests;

@@ -4,7 +4,8 @@ ghost use Rattle.std.specs.Prelude.{◌≡◌, ◌≤◌, ◌+◌, ◌↔◌, Is
 ghost use Rattle.std.specs.Ordering.{nat_cmp};
 ghost use Rattle.std.specs.FinMap as map;
 ghost use Rattle.xc_word.specs.Cells.{cell_at, fresh};
-ghost use Rattle.xc_word.specs.Table.{full_with, empty_with, on_cell, outcome, outcome_in, answer_of, left_by, cells_left};
+ghost use Rattle.xc_word.specs.Table.{full_with, empty_with, on_cell, outcome, answer_of, left_by};
+ghost use Rattle.xc_word.specs.InnerTable.{outcome_in, cells_left};
 ghost use Rattle.xc_word.specs.Total.{total, words_of};
 
 use std::alloc::Global;

@@ -1,5 +1,6 @@
 use Rattle.std.proofs.Common.{◌≡◌, drop}
-use Rattle.xc_edge.specs.ShelfState.{entries, file_named}
+use Rattle.xc_edge.specs.ShelfState.{entries}
+use Rattle.xc_edge.specs.InnerShelfState.{file_named}
 use Rattle.xc_edge.proofs.memory.first_named.Given as goal
 
 -- no earlier file has the name

@@ -1,5 +1,5 @@
 use Rattle.std.proofs.Common.{◌≡◌, ◌++◌, drop}
-use Rattle.xc_form.specs.Effects.{exprs_effects}
+use Rattle.xc_form.specs.InnerEffects.{exprs_effects}
 use Rattle.xc_form.proofs.effect.+collect.Given as goal
 
 abbrev pub invariant-collect_exprs-loop-e : goal.invariant-collect_exprs-loop-e

@@ -1,5 +1,5 @@
 use Rattle.std.proofs.Common.{◌≡◌, ◌++◌, drop}
-use Rattle.xc_form.specs.Effects.{stmts_effects}
+use Rattle.xc_form.specs.InnerEffects.{stmts_effects}
 use Rattle.xc_form.proofs.effect.+statement.Given as goal
 
 abbrev pub invariant-collect_stmts-loop-s : goal.invariant-collect_stmts-loop-s

@@ -1,5 +1,5 @@
 use Rattle.std.proofs.Common.{◌≡◌, drop}
-use Rattle.xc_form.specs.Normal.{any_exits}
+use Rattle.xc_form.specs.InnerNormal.{any_exits}
 use Rattle.xc_form.proofs.normal.+exits.Given as goal
 
 abbrev pub invariant-any_exits-loop-s : goal.invariant-any_exits-loop-s

@@ -1,5 +1,5 @@
 use Rattle.std.proofs.Common.{sym, ap, ◌∙◌}
-use Rattle.xc_isa_text.specs.Readings.{may_follow, differ}
+use Rattle.xc_isa_text.specs.InnerReadings.{may_follow, differ}
 use Rattle.xc_isa_text.proofs.Chains.{last_is}
 use Rattle.xc_isa_text.proofs.follow.run_may_follow.Goals as goal
 

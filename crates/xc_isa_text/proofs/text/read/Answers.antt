@@ -1,5 +1,5 @@
 use Rattle.std.proofs.Common.{sym, ◌∙◌}
-use Rattle.xc_isa_text.specs.Readings.{contents_in}
+use Rattle.xc_isa_text.specs.InnerReadings.{contents_in}
 use Rattle.xc_isa_text.proofs.Laws.{code_found, code_only, code_bad, has_text, line_err, only_err, same_contents, drafted}
 use Rattle.xc_isa_text.proofs.text.read.Goals as goal
 

@@ -2,7 +2,7 @@ use Rattle.std.proofs.Common.{◌≡◌, ◌∙◌, ◌+◌, ℕ, sym, ap, rules
 use Rattle.xc_lex.specs.declared.front.Front.TheVariants.{Whole}
 use Rattle.xc_lex.specs.Lines.{directive_at, pragma_at, named}
 use Rattle.xc_lex.specs.State.{all_of}
-use Rattle.xc_lex.specs.Steps.{PragmaRead}
+use Rattle.xc_lex.specs.InnerSteps.{PragmaRead}
 use Rattle.xc_lex.proofs.Directives.{DefinesAt, directive_named}
 use Rattle.xc_lex.proofs.Faults.{PragmaRead-line}
 use Rattle.xc_lex.proofs.lines.read_directive.Goals as goal

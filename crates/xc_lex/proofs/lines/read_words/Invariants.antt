@@ -1,6 +1,7 @@
 use Rattle.std.proofs.Common.{◌≡◌, ◌≤◌, ◌-◌, ◌^◌, length}
 use Rattle.xc_lex.specs.State.{MadeFits}
-use Rattle.xc_lex.specs.Steps.{IsIdle, SoFar}
+use Rattle.xc_lex.specs.Steps.{IsIdle}
+use Rattle.xc_lex.specs.InnerSteps.{SoFar}
 use Rattle.xc_lex.proofs.lines.read_words.Given as goal
 
 abbrev pub invariant-words : goal.invariant-words

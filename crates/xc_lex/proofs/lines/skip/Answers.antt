@@ -1,6 +1,6 @@
 use Rattle.std.proofs.Common.{◌∙◌, arith}
 use Rattle.xc_lex.specs.declared.front.Front.TheVariants.{Blank}
-use Rattle.xc_lex.specs.Steps.{front_in}
+use Rattle.xc_lex.specs.InnerSteps.{front_in}
 use Rattle.xc_lex.proofs.Scanning.{stands_at, blanks_blank_at}
 use Rattle.xc_lex.proofs.lines.skip.Goals as goal
 

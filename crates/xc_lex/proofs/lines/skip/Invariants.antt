@@ -1,6 +1,6 @@
 use Rattle.std.proofs.Common.{◌≡◌, ◌≤◌, ◌-◌, length, drop}
 use Rattle.xc_lex.specs.Lines.{blanks_from}
-use Rattle.xc_lex.specs.Steps.{front_in}
+use Rattle.xc_lex.specs.InnerSteps.{front_in}
 use Rattle.xc_lex.proofs.lines.skip.Given as goal
 
 abbrev pub invariant-blanks : goal.invariant-blanks

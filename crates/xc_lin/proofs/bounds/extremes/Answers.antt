@@ -4,7 +4,8 @@ use Rattle.std.proofs.lemmas.Int.{ints}
 use Rattle.std.proofs.lemmas.List.{take_all}
 use Rattle.xc_lin.specs.declared.affine.Term.{Term}
 use Rattle.xc_lin.specs.declared.affine.Var.TheVariants.{Index}
-use Rattle.xc_lin.specs.Affine.{met, IsSingle}
+use Rattle.xc_lin.specs.Affine.{IsSingle}
+use Rattle.xc_lin.specs.InnerAffine.{met}
 use Rattle.xc_lin.proofs.Totals.{Summed, summed-nil}
 use Rattle.xc_lin.proofs.Bounded.{values-met, single-met, summed-more, bounds-summed}
 use Rattle.xc_lin.proofs.bounds.extremes.Goals as goal

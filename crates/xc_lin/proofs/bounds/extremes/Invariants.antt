@@ -1,5 +1,5 @@
 use Rattle.std.proofs.Common.{◌+◌, ◌*◌, ◌^◌, ◌-ℤ◌, take}
-use Rattle.xc_lin.specs.Region.{AreWithin}
+use Rattle.xc_lin.specs.InnerRegion.{AreWithin}
 use Rattle.xc_lin.proofs.Totals.{Summed}
 use Rattle.xc_lin.proofs.bounds.extremes.Given as goal
 

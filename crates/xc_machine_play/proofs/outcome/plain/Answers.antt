@@ -2,8 +2,8 @@ use Rattle.std.proofs.Common.{refl, sym, ap, ◌∙◌}
 use Rattle.std.specs.Prelude.{Some}
 use Rattle.xc_machine.specs.Machines.{state_of, code_of, limits_of, steps_of}
 use Rattle.xc_machine.specs.Runs.{named_in}
-use Rattle.xc_exec.proofs.Playing.{ok_map, played}
-use Rattle.xc_exec.proofs.outcome.plain.Goals as goal
+use Rattle.xc_machine_play.proofs.Playing.{ok_map, played}
+use Rattle.xc_machine_play.proofs.outcome.plain.Goals as goal
 
 pub returns : goal.returns
 returns g c =

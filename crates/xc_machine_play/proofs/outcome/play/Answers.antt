@@ -2,9 +2,9 @@ use Rattle.std.proofs.Common.{ℕ, List, false, sym, subst}
 use Rattle.std.specs.Prelude.{IfOk}
 use Rattle.std.specs.Option.{option_map}
 use Rattle.xc_sched.specs.Choices.{PicksInTurn, PicksBySeed}
-use Rattle.xc_exec.specs.declared.source.Source.{Source}
-use Rattle.xc_exec.specs.Plays.{PlaysBy, Plays, IsRecord}
-use Rattle.xc_exec.proofs.outcome.play.Goals as goal
+use Rattle.xc_machine_play.specs.declared.source.Source.{Source}
+use Rattle.xc_machine_play.specs.Plays.{PlaysBy, Plays, IsRecord}
+use Rattle.xc_machine_play.proofs.outcome.play.Goals as goal
 
 pub returns-in-Turns : goal.returns-in-Turns
 returns-in-Turns c =

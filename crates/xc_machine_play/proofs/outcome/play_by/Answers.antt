@@ -2,9 +2,9 @@ use Rattle.std.proofs.Common.{◌≡◌, ◌≤◌, inr, sym, ap, ◌∙◌, sub
 use Rattle.std.specs.Option.{option_map}
 use Rattle.xc_isa.specs.Machine.{start, live_words}
 use Rattle.xc_machine.specs.Machines.{state_of, code_of, limits_of}
-use Rattle.xc_exec.specs.Plays.{IsRecord, limits_in}
-use Rattle.xc_exec.proofs.Playing.{ok_map, played_from}
-use Rattle.xc_exec.proofs.outcome.play_by.Goals as goal
+use Rattle.xc_machine_play.specs.Plays.{IsRecord, limits_in}
+use Rattle.xc_machine_play.proofs.Playing.{ok_map, played_from}
+use Rattle.xc_machine_play.proofs.outcome.play_by.Goals as goal
 
 pub returns-then-options : goal.returns-then-options
 returns-then-options g c =

@@ -3,10 +3,10 @@ use Rattle.std.specs.Prelude.{Some, None}
 use Rattle.xc_sched.specs.Runs.{Spells}
 use Rattle.xc_machine.specs.Machines.{state_of, code_of, limits_of, steps_of}
 use Rattle.xc_machine.specs.Runs.{RunsTo}
-use Rattle.xc_exec.specs.Plays.{IsRecord}
-use Rattle.xc_exec.proofs.Recording.{both, unrecorded_run}
-use Rattle.xc_exec.proofs.Playing.{ok_map, not_some, played}
-use Rattle.xc_exec.proofs.outcome.recorded.Goals as goal
+use Rattle.xc_machine_play.specs.Plays.{IsRecord}
+use Rattle.xc_machine_play.proofs.Recording.{both, unrecorded_run}
+use Rattle.xc_machine_play.proofs.Playing.{ok_map, not_some, played}
+use Rattle.xc_machine_play.proofs.outcome.recorded.Goals as goal
 
 pub returns : goal.returns
 returns g c =

@@ -4,7 +4,8 @@ use Rattle.std.specs.Prelude.{List, slice_range}
 use Rattle.xc_lex.specs.declared.token.Token.{Token}
 use Rattle.xc_raw.specs.Words.{word_of}
 use Rattle.xc_parse_grammar.specs.Plan.{act_of, planned}
-use Rattle.xc_parse.specs.Texts.{words_of, Pushed}
+use Rattle.xc_parse.specs.Texts.{words_of}
+use Rattle.xc_parse.specs.InnerTexts.{Pushed}
 use Rattle.xc_parse.specs.declared.parser.Turn.TheVariants as turn
 use Rattle.xc_parse.proofs.Turns.{Taken, can_change, done, read, wrong_here, start_goes, more_here, done_here}
 use Rattle.xc_parse.proofs.parser.parse.Goals as goal

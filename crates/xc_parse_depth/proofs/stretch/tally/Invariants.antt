@@ -1,5 +1,5 @@
 use Rattle.std.proofs.Common.{take}
-use Rattle.xc_parse_depth.specs.Depths.{Tallied}
+use Rattle.xc_parse_depth.specs.InnerDepths.{Tallied}
 use Rattle.xc_parse_depth.proofs.stretch.tally.Given as goal
 
 abbrev pub invariant-stretches : goal.invariant-stretches

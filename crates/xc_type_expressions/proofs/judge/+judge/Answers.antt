@@ -1,5 +1,5 @@
 use Rattle.std.proofs.Common.{◌≤◌, ◌^◌, length, map, refl, sym, ap, subst, ◌∙◌}
-use Rattle.std.specs.Prelude.{nat_lt, option_and_then, IfOk}
+use Rattle.std.specs.Prelude.{false, nat_lt, option_and_then, IfOk}
 use Rattle.xc_type_rule.specs.Least.{least_from}
 use Rattle.xc_type_structs.specs.declared.structs.Layout.{Layout}
 use Rattle.xc_type_expressions.specs.Places.{name_of}
@@ -9,10 +9,11 @@ use Rattle.xc_type_scopes.proofs.Walks.{walked, walked_with, walked_all, walked_
 use Rattle.xc_type_constants.specs.Pieces.{constant_faults}
 use Rattle.xc_type_expressions.specs.Roles.{value, values}
 use Rattle.xc_type_expressions.specs.Types.{name_fault_unless, tags, members, with_declared, declared_member, bound_by, bound_of, bounds}
-use Rattle.xc_type_expressions.specs.Judged.{spot_in, judged}
-use Rattle.xc_type_scopes.specs.Told.{Tells}
+use Rattle.xc_type_expressions.specs.Judged.{spot_in, operand, judged}
+use Rattle.xc_type_scopes.specs.InnerTold.{Tells}
 use Rattle.xc_type_expressions.specs.Operations.{cast_to}
 use Rattle.xc_type_expressions.proofs.Few.{list_two, list_three}
+use Rattle.xc_type_expressions.proofs.Outcomes.{judges_ok, judges_same}
 use Rattle.xc_type_expressions.proofs.Shapes.{cast_judged, two_judged, three_judged, many_judged, struct_judged}
 use Rattle.xc_type_expressions.proofs.judge.+judge.Goals as goal
 
@@ -84,9 +85,13 @@ cast_found-returns-in_ok-v-in-len2 t c =
     cast_judged c.args.text.now c.args.node.now c.specs-item.result c.a-item.result
     (sym c.as_slice.ensures ∙ list_two c.as_slice.result.now c.specs-item.result c.a-item.result c.in-len2.len_at_least c.in-len2.len_below c.specs-item.is c.a-item.is)
     c.args.env.now c.specified.new.env c.value.new.env c.args.first.now c.specified.new.first c.value.new.first c.cast_to.new.first
-    c.in_ok-has_stars-in-len2.has_stars c.in_ok-ty-in-len2.ty c.in_ok-v-in-len2.v c.cast_to.result
-    c.in_ok-has_stars-in-len2.ensures c.in_ok-ty-in-len2.ensures c.in_ok-v-in-len2.ensures
-    (subst (λ s. IfOk c.cast_to.result (λ r. Tells (cast_to s c.in_ok-has_stars-in-len2.has_stars c.in_ok-ty-in-len2.ty c.in_ok-v-in-len2.v) c.value.new.first c.cast_to.new.first r)) c.span_of.ensures c.cast_to.ensures)
+    c.in_ok-has_stars-in-len2.has_stars c.in_ok-v-in-len2.ty c.in_ok-v-in-len2.v c.cast_to.result
+    c.in_ok-has_stars-in-len2.ensures
+    (judges_same ((judged c.args.text.now c.specs-item.result).specified false) c.args.env.now c.specified.new.env c.args.first.now c.specified.new.first
+    c.in_ok-ty-in-len2.ty c.in_ok-v-in-len2.ty c.in_ok-ty-in-len2.ensures c.in_ok-v-in-len2.ensures.part)
+    (judges_ok (value (judged c.args.text.now c.a-item.result)) c.specified.new.env c.value.new.env c.specified.new.first c.value.new.first
+    c.value.result c.in_ok-v-in-len2.v c.value.ensures c.in_ok-v-in-len2.ensures.outcome)
+    (subst (λ s. IfOk c.cast_to.result (λ r. Tells (cast_to s c.in_ok-has_stars-in-len2.has_stars c.in_ok-v-in-len2.ty c.in_ok-v-in-len2.v) c.value.new.first c.cast_to.new.first r)) c.span_of.ensures c.cast_to.ensures)
 
 pub part_found-returns-in_ok-y-in-len2 : goal.part_found-returns-in_ok-y-in-len2
 part_found-returns-in_ok-y-in-len2 t c =
@@ -94,8 +99,13 @@ part_found-returns-in_ok-y-in-len2 t c =
     (sym c.as_slice.ensures ∙ list_two c.as_slice.result.now c.a-item-then-this-lt3.result c.b-item.result c.in-len2.len_at_least c.in-len2.len_below c.a-item-then-this-lt3.is c.b-item.is)
     c.args.env.now c.operand_found-in-len2.new.env c.value.new.env c.value.new.env
     c.args.first.now c.operand_found-in-len2.new.first c.value.new.first c.with_two.new.first
-    c.takes_value-in-len2.result c.span_of-at.result c.in_ok-x-in-len2.x c.in_ok-y-in-len2.y c.with_two.result
-    c.takes_value-in-len2.ensures c.span_of-at.ensures c.in_ok-x-in-len2.ensures c.in_ok-y-in-len2.ensures c.with_two.ensures
+    c.takes_value-in-len2.result c.span_of-at.result c.in_ok-y-in-len2.x c.in_ok-y-in-len2.y c.with_two.result
+    c.takes_value-in-len2.ensures c.span_of-at.ensures
+    (judges_same (operand c.takes_value-in-len2.result (judged c.args.text.now c.a-item-then-this-lt3.result)) c.args.env.now c.operand_found-in-len2.new.env
+    c.args.first.now c.operand_found-in-len2.new.first c.in_ok-x-in-len2.x c.in_ok-y-in-len2.x c.in_ok-x-in-len2.ensures c.in_ok-y-in-len2.ensures.part)
+    (judges_ok (value (judged c.args.text.now c.b-item.result)) c.operand_found-in-len2.new.env c.value.new.env
+    c.operand_found-in-len2.new.first c.value.new.first c.value.result c.in_ok-y-in-len2.y c.value.ensures c.in_ok-y-in-len2.ensures.outcome)
+    c.with_two.ensures
 
 pub part_found-returns-in_ok-z-in-len3 : goal.part_found-returns-in_ok-z-in-len3
 part_found-returns-in_ok-z-in-len3 t c =
@@ -104,8 +114,17 @@ part_found-returns-in_ok-z-in-len3 t c =
     c.in-len3.len_at_least c.in-len3.len_below c.a-item-then-this-lt4.is c.b-item-then-this-lt4.is c.c-item.is)
     c.args.env.now c.value-in-len3.new.env c.value-in-len3-2.new.env c.value-in-len3-3.new.env
     c.args.first.now c.value-in-len3.new.first c.value-in-len3-2.new.first c.value-in-len3-3.new.first c.with_three.new.first
-    c.in_ok-x-in-len3.x c.in_ok-y-in-len3.y c.in_ok-z-in-len3.z c.with_three.result
-    c.in_ok-x-in-len3.ensures c.in_ok-y-in-len3.ensures c.in_ok-z-in-len3.ensures c.with_three.ensures
+    c.in_ok-z-in-len3.x c.in_ok-z-in-len3.y c.in_ok-z-in-len3.z c.with_three.result
+    (judges_same (value (judged c.args.text.now c.a-item-then-this-lt4.result)) c.args.env.now c.value-in-len3.new.env c.args.first.now c.value-in-len3.new.first
+    c.in_ok-x-in-len3.x c.in_ok-z-in-len3.x c.in_ok-x-in-len3.ensures (ap (λ p. p.0) c.in_ok-z-in-len3.ensures.part ∙ c.in_ok-y-in-len3.ensures.part))
+    (judges_same (value (judged c.args.text.now c.b-item-then-this-lt4.result)) c.value-in-len3.new.env c.value-in-len3-2.new.env c.value-in-len3.new.first c.value-in-len3-2.new.first
+    c.in_ok-y-in-len3.y c.in_ok-z-in-len3.y
+    (judges_ok (value (judged c.args.text.now c.b-item-then-this-lt4.result)) c.value-in-len3.new.env c.value-in-len3-2.new.env c.value-in-len3.new.first c.value-in-len3-2.new.first
+    c.value-in-len3-2.result c.in_ok-y-in-len3.y c.value-in-len3-2.ensures c.in_ok-y-in-len3.ensures.outcome)
+    (ap (λ p. p.1) c.in_ok-z-in-len3.ensures.part))
+    (judges_ok (value (judged c.args.text.now c.c-item.result)) c.value-in-len3-2.new.env c.value-in-len3-3.new.env c.value-in-len3-2.new.first c.value-in-len3-3.new.first
+    c.value-in-len3-3.result c.in_ok-z-in-len3.z c.value-in-len3-3.ensures c.in_ok-z-in-len3.ensures.outcome)
+    c.with_three.ensures
 
 pub part_found-returns-in_default : goal.part_found-returns-in_default
 part_found-returns-in_default t c =

@@ -1,6 +1,7 @@
 use Rattle.std.proofs.Common.{◌≡◌, drop}
 use Rattle.std.specs.Prelude.{fold}
-use Rattle.xc_type_initialiser_objects.specs.Cells.{filled_from, with_cell, no_cells}
+use Rattle.xc_type_initialiser_objects.specs.Cells.{filled_from}
+use Rattle.xc_type_initialiser_objects.specs.InnerCells.{with_cell, no_cells}
 use Rattle.xc_type_initialiser_objects.proofs.cells.initialised.Given as goal
 
 -- the words to come give what all words give

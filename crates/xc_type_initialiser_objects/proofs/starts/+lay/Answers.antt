@@ -1,5 +1,5 @@
 use Rattle.std.proofs.Common.{ap, ◌∙◌, sym}
-use Rattle.xc_type_initialiser_objects.specs.Cells.{with_fresh}
+use Rattle.xc_type_initialiser_objects.specs.InnerCells.{with_fresh}
 use Rattle.xc_type_initialiser_objects.proofs.Starting.{plain_elements}
 use Rattle.xc_type_initialiser_objects.proofs.starts.+lay.Goals as goal
 

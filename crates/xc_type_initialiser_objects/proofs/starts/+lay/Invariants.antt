@@ -1,7 +1,8 @@
 use Rattle.std.proofs.Common.{◌≡◌, ◌+◌, ◌*◌, drop}
 use Rattle.std.specs.Prelude.{fold, replicate}
 use Rattle.xc_tree.specs.Lists.{joined}
-use Rattle.xc_type_initialiser_objects.specs.Cells.{start_of, starts_within, struct_start, with_cell}
+use Rattle.xc_type_initialiser_objects.specs.Cells.{start_of, starts_within, struct_start}
+use Rattle.xc_type_initialiser_objects.specs.InnerCells.{with_cell}
 use Rattle.xc_type_initialiser_objects.proofs.starts.+lay.Given as goal
 
 -- by the levels that are left, and then by who calls whom

@@ -1,5 +1,6 @@
 use Rattle.std.proofs.Common.{◌≡◌, take}
-use Rattle.xc_type_literals.specs.Constants.{constants_of, AreConstants}
+use Rattle.xc_type_literals.specs.Constants.{constants_of}
+use Rattle.xc_type_literals.specs.InnerConstants.{AreConstants}
 use Rattle.xc_type_literals.proofs.numbers.constants_of.Given as goal
 
 abbrev pub invariant-loop-token : goal.invariant-loop-token

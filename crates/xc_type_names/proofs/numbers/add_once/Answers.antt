@@ -1,7 +1,8 @@
 use Rattle.std.proofs.Common.{◌∙◌, ℕ, sym, ap, subst, map}
 use Rattle.std.specs.Str.{bytes_eq}
 use Rattle.indexmap.specs.IndexSet.{insert_key}
-use Rattle.xc_type_names.specs.Stretches.{stretch_eq, bytes_at, AreIn}
+use Rattle.xc_type_names.specs.Stretches.{bytes_at, AreIn}
+use Rattle.xc_text_place.specs.Stretches.{stretch_eq}
 use Rattle.xc_type_names.proofs.Stretches.{are_in, there, not_false}
 use Rattle.xc_type_names.proofs.numbers.add_once.Goals as goal
 

@@ -1,5 +1,5 @@
 use Rattle.std.proofs.Common.{ap, ◌∙◌, map, string_bytes}
-use Rattle.xc_edge.specs.ShelfState.{name_count}
+use Rattle.xc_edge.specs.InnerShelfState.{name_count}
 use Rattle.xc_edge.proofs.NameCounts.{name_count-other}
 use Rattle.xc_edge.proofs.memory.MemShelfShelf.fetch.Goals as goal
 

@@ -4,7 +4,8 @@ use Rattle.std.specs.List.{slice_range}
 use Rattle.std.proofs.lemmas.List.{reverse-append}
 use Rattle.xc_lex.specs.declared.token.Token.{Token}
 use Rattle.xc_lex.specs.declared.macros.Frame.{Frame}
-use Rattle.xc_lex.specs.State.{moved, Passes, Entered}
+use Rattle.xc_lex.specs.State.{moved, Passes}
+use Rattle.xc_lex.specs.InnerState.{Entered}
 use Rattle.xc_lex.proofs.Frames.{Entered-keep, Entered-added, Entered-enter}
 use Rattle.xc_lex.proofs.Made.{made_again}
 use Rattle.xc_lex.proofs.macros.Macros.enter.Goals as goal

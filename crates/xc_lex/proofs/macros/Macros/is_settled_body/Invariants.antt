@@ -1,5 +1,6 @@
 use Rattle.std.proofs.Common.{drop}
-use Rattle.xc_lex.specs.State.{AllSettled, tokens_of}
+use Rattle.xc_lex.specs.State.{tokens_of}
+use Rattle.xc_lex.specs.InnerState.{AllSettled}
 use Rattle.xc_lex.proofs.macros.Macros.is_settled_body.Given as goal
 
 abbrev pub invariant-loop-word : goal.invariant-loop-word

@@ -1,5 +1,6 @@
 use Rattle.std.proofs.Common.{◌≡◌, ◌≤◌, ◌^◌, ◌++◌, length, reverse}
-use Rattle.xc_lex.specs.State.{IsKept, MadeFits, AreSpans, AreWithin, unwound, pending, now_replaced, frames_cost}
+use Rattle.xc_lex.specs.State.{IsKept, MadeFits, now_replaced}
+use Rattle.xc_lex.specs.InnerState.{AreSpans, AreWithin, unwound, pending, frames_cost}
 use Rattle.xc_lex.proofs.macros.Macros.replace.Given as goal
 
 abbrev pub invariant-frames : goal.invariant-frames

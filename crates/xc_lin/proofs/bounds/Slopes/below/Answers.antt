@@ -1,6 +1,6 @@
 use Rattle.std.proofs.Common.{arith, subst}
 use Rattle.std.proofs.lemmas.Int.{ints}
-use Rattle.xc_lin.specs.Region.{Reaches}
+use Rattle.xc_lin.specs.InnerRegion.{Reaches}
 use Rattle.xc_lin.proofs.Spread.{spans-below, lesser-size, greater-size}
 use Rattle.xc_lin.proofs.bounds.Slopes.below.Goals as goal
 

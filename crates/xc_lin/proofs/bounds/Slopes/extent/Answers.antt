@@ -1,5 +1,5 @@
 use Rattle.std.proofs.Common.{subst}
-use Rattle.xc_lin.specs.Region.{Reaches, Spans}
+use Rattle.xc_lin.specs.InnerRegion.{Reaches, Spans}
 use Rattle.xc_lin.specs.declared.region.Tie.TheVariants.{Below}
 use Rattle.xc_lin.proofs.Spread.{spans-apart, spans-shared, spans-above}
 use Rattle.xc_lin.proofs.bounds.Slopes.extent.Goals as goal

@@ -1,6 +1,6 @@
 use Rattle.std.proofs.Common.{sym, ◌∙◌, subst}
-use Rattle.xc_machine.specs.Shows.{stream_in, regs_at}
-use Rattle.xc_machine.specs.Limits.{Makes}
+use Rattle.xc_machine.specs.InnerShows.{stream_in, regs_at}
+use Rattle.xc_machine.specs.InnerLimits.{Makes}
 use Rattle.xc_machine.specs.Machines.{state_of, code_of, limits_of}
 use Rattle.xc_machine.proofs.SlotSteps.{target_effect}
 use Rattle.xc_machine.proofs.machine.Machine.access.Goals as goal

@@ -1,8 +1,9 @@
 use Rattle.std.proofs.Common.{◌≡◌, refl, sym, ap, ◌∙◌}
 use Rattle.std.specs.Prelude.{Some, None, Option, ℕ, map, position, is_none}
 use Rattle.xc_isa.specs.Machine.{At, free_slot, begun}
-use Rattle.xc_machine.specs.Shows.{slot_of, stream_in, regs_at}
-use Rattle.xc_machine.specs.Registers.{answered}
+use Rattle.xc_machine.specs.Shows.{slot_of}
+use Rattle.xc_machine.specs.InnerShows.{stream_in, regs_at}
+use Rattle.xc_machine.specs.InnerRegisters.{answered}
 use Rattle.xc_machine.specs.Stores.{shown}
 use Rattle.xc_machine.specs.Machines.{state_of}
 use Rattle.xc_machine.proofs.Slots.{slots_put, free_place, started, not_started}

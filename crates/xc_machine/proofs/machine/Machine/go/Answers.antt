@@ -1,6 +1,6 @@
 use Rattle.std.proofs.Common.{◌≡◌, refl, ap, ◌∙◌, sym, subst}
 use Rattle.std.specs.Prelude.{Some, None, IsSome}
-use Rattle.xc_machine.specs.Shows.{stream_in}
+use Rattle.xc_machine.specs.InnerShows.{stream_in}
 use Rattle.xc_machine.specs.Stores.{shown}
 use Rattle.xc_machine.proofs.Slots.{within, found, gone_on}
 use Rattle.xc_machine.proofs.machine.Machine.go.Goals as goal

@@ -2,7 +2,7 @@ use Rattle.std.proofs.Common.{rules, sym, subst}
 use Rattle.xc_word.specs.Table.{outcome, answer_of}
 use Rattle.xc_meaning_world.specs.World.{On, Reach, serve}
 use Rattle.xc_machine.specs.Shows.{world_in}
-use Rattle.xc_machine.specs.Stores.{Serves}
+use Rattle.xc_machine.specs.InnerStores.{Serves}
 use Rattle.xc_machine.proofs.Shown.{access_served}
 use Rattle.xc_machine.proofs.WordCounts.{left_count, left_beyond}
 use Rattle.xc_machine.proofs.store.Store.touch.Goals as goal

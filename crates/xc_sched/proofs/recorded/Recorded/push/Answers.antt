@@ -1,7 +1,8 @@
 use Rattle.std.proofs.Common.{◌≡◌, ◌+◌, ◌-◌, ℕ, List, length, drop, set, get_or, Bool, true, false, cond, None, Result, Ok, Err, is_ok, refl, sym, ap, subst, ◌∙◌, arith}
 use Rattle.std.specs.Prelude.{is_err}
 use Rattle.xc_sched.specs.declared.run.Run.{Run}
-use Rattle.xc_sched.specs.Runs.{last_of, is_other, steps_of}
+use Rattle.xc_sched.specs.Runs.{is_other, steps_of}
+use Rattle.xc_sched.specs.InnerRuns.{last_of}
 use Rattle.xc_sched.specs.Runs.{KeepsRuns}
 use Rattle.xc_sched.proofs.LossLemmas.{other_fits, other_kept, other_steps, last_full, last_fits, written_kept, written_steps}
 use Rattle.xc_sched.proofs.recorded.Recorded.push.Goals as goal

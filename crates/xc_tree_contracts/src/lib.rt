@@ -1,0 +1,11 @@
+//! Affine forms, the forms of loops and operators, each call with its contract once more: an edit shows what the
+//! contract refuses.
+#![tactic(auto)]
+
+mod lines;
+mod loops;
+mod words;
+
+pub use lines::{divisor, extremes, has_points, sum};
+pub use loops::{concurrent, normal, pures};
+pub use words::{binary, unary, works_on_uint};

@@ -1,0 +1,39 @@
+ghost use Rattle.std.specs.Prelude.{◌≡◌, IsTrue, IfOk};
+ghost use Rattle.xc_form.specs.Normal.{is_loop, normal_form as normal_form_of};
+ghost use Rattle.xc_form.specs.Concurrency.{is_concurrent as is_concurrent_by};
+ghost use Rattle.xc_form.specs.Purity.{purity};
+
+use sqlite_items::Items;
+use std::alloc::{AllocError, Global};
+use xc_form::{Header, is_concurrent, normal_form, pure_functions};
+use xc_tree::{Func, Local, NotNormal, Stmt};
+
+pub fn normal(
+    alloc: Global,
+    pures: &[bool],
+    locals: &[Local],
+    s: &Stmt,
+) -> Result<Result<Header, NotNormal>, AllocError>
+    requires { IsTrue (is_loop s.now) }
+    ensures { IfOk result (λ r. r ≡ normal_form_of pures.now locals.now s.now) }
+{
+    normal_form(alloc, pures, locals, s)
+}
+
+pub fn concurrent(
+    alloc: Global,
+    pures: &[bool],
+    locals: &[Local],
+    s: &Stmt,
+) -> Result<bool, AllocError>
+    requires { IsTrue (is_loop s.now) }
+    ensures { IfOk result (λ r. r ≡ is_concurrent_by pures.now locals.now s.now) }
+{
+    is_concurrent(alloc, pures, locals, s)
+}
+
+pub fn pures(alloc: Global, funcs: &[Func]) -> Result<Items<bool>, AllocError>
+    ensures { IfOk result (λ r. r ≡ purity funcs.now) }
+{
+    pure_functions(alloc, funcs)
+}
