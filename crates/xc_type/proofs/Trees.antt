@@ -16,7 +16,7 @@ use Rattle.xc_type_rule.specs.declared.fault.Fault.{Fault}
 use Rattle.xc_type_rule.specs.declared.found.Member.{Member}
 use Rattle.xc_type_rule.specs.Least.{is_before, least_from}
 use Rattle.xc_type_literals.specs.Texts.{formats_of}
-use Rattle.xc_type_statements.specs.Making.{one, followed, all_made}
+use Rattle.xc_type_statement_parts.specs.Making.{one, followed, all_made}
 use Rattle.xc_type_unit.specs.declared.scope.FileScope.{FileScope}
 use Rattle.xc_type_unit.specs.declared.text.Whole.{Whole}
 use Rattle.xc_type_unit.specs.Functions.{bodies_of}

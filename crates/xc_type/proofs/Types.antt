@@ -5,7 +5,7 @@ use Rattle.std.proofs.lemmas.List.{drop_more}
 use Rattle.std.proofs.lemmas.Option.{slice_get-get_or}
 use Rattle.std.proofs.lemmas.Grind.{common_steps}
 use Rattle.xc_type_rule.specs.declared.found.Member.{Member}
-use Rattle.xc_type_statements.proofs.Parts.{followed_first, followed_last, followed_assoc, made_none, made_more}
+use Rattle.xc_type_statement_parts.proofs.Parts.{followed_first, followed_last, followed_assoc, made_none, made_more}
 use Rattle.xc_type.specs.Checked.{types_of}
 use Rattle.xc_type.specs.InnerChecked.{type_at}
 

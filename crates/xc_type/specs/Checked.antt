@@ -13,7 +13,7 @@ use Rattle.xc_type_names.specs.Numbered.{numbered}
 use Rattle.xc_type_literals.specs.Constants.{constants_of}
 use Rattle.xc_type_literals.specs.Texts.{numbers_of, formats_of, all_taken}
 use Rattle.xc_type_expressions.specs.declared.text.Text.{Text}
-use Rattle.xc_type_statements.specs.Making.{all_made}
+use Rattle.xc_type_statement_parts.specs.Making.{all_made}
 use Rattle.xc_type_unit.specs.declared.scope.FileScope.{FileScope}
 use Rattle.xc_type_unit.specs.Functions.{bodies_of}
 use Rattle.xc_type_unit.specs.Texts.{whole, main_in}

@@ -15,7 +15,7 @@ use xc_text_place::Span;
 use xc_tree::tree::Func;
 use xc_tree::{Tree, Ty};
 use xc_type_scopes::Env;
-use xc_type_statements::{followed, one};
+use xc_type_statement_parts::{followed, one};
 use xc_type_structs::Members;
 use xc_type_unit::{FileScope, Whole, copy_known};
 

@@ -1,6 +1,1 @@
-pub mod Making
-pub mod Answers
-pub mod Pragmas
-pub mod Declarations
-pub mod Futures
 pub mod Stated

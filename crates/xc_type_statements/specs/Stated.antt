@@ -17,14 +17,14 @@ use Rattle.xc_type_scopes.specs.Judge.{Judge, give, and_then, mapped, framed, in
 use Rattle.xc_type_expressions.specs.declared.text.Text.{Text}
 use Rattle.xc_type_expressions.specs.Roles.{value}
 use Rattle.xc_type_expressions.specs.Judged.{judged, span_in}
-use Rattle.xc_type_statements.specs.declared.answer.Answer.{Answer}
-use Rattle.xc_type_statements.specs.declared.make.Header.{Header}
-use Rattle.xc_type_statements.specs.declared.pragmas.Begun.{Begun}
-use Rattle.xc_type_statements.specs.Making.{Stmts, stmt, one, followed, single, eval_made, block_made, if_made, headed, test_alone, loop_made, future_made}
-use Rattle.xc_type_statements.specs.Answers.{absent_part, absent_faults, return_part, return_faults}
-use Rattle.xc_type_statements.specs.Pragmas.{begun}
-use Rattle.xc_type_statements.specs.Declarations.{declaration}
-use Rattle.xc_type_statements.specs.Futures.{awaited, begins}
+use Rattle.xc_type_statement_parts.specs.declared.answer.Answer.{Answer}
+use Rattle.xc_type_statement_parts.specs.declared.make.Header.{Header}
+use Rattle.xc_type_statement_parts.specs.declared.pragmas.Begun.{Begun}
+use Rattle.xc_type_statement_parts.specs.Making.{Stmts, stmt, one, followed, single, eval_made, block_made, if_made, headed, test_alone, loop_made, future_made}
+use Rattle.xc_type_statement_parts.specs.Answers.{absent_part, absent_faults, return_part, return_faults}
+use Rattle.xc_type_statement_parts.specs.Pragmas.{begun}
+use Rattle.xc_type_statement_parts.specs.Declarations.{declaration}
+use Rattle.xc_type_statement_parts.specs.Futures.{awaited, begins}
 
 -- a part of a statement, where a `return` gives this answer, and there is a loop to leave or not
 pub record Part : Type 0 where

@@ -5,19 +5,11 @@ ghost use Rattle.xc_raw.specs.declared.tree.Raw.{out-Raw};
 ghost use Rattle.xc_type_rule.specs.Least.{least_from, fault_unless};
 ghost use Rattle.xc_type_scopes.specs.Judge.{Judges};
 ghost use Rattle.xc_type_expressions.specs.Judged.{span_in};
-ghost use Rattle.xc_type_statements.specs.Making as making;
+ghost use Rattle.xc_type_statement_parts.specs.Making as making;
 ghost use Rattle.xc_type_statements.specs.Stated as spec;
 ghost use Rattle.xc_type_statements.specs.Stated.{statement};
-ghost use Rattle.xc_type_statements.specs.Futures as futures;
+ghost use Rattle.xc_type_statement_parts.specs.Futures as futures;
 
-use crate::answer::{Answer, returned, returned_none};
-use crate::declarations::declaration;
-use crate::futures::{Copied, awaited, captured, declared_copies};
-use crate::make::{
-    Header, block_made, eval_made, followed, future_made, headed, if_made, loop_made, one, single,
-    test_alone,
-};
-use crate::pragmas::{Begun, begin_loop};
 use sqlite_items::Items;
 use std::alloc::{AllocError, Global};
 use xc_hold::kept;
@@ -28,6 +20,11 @@ use xc_tree::{Capture, Expr, LoopForm, Stmt, StmtKind};
 use xc_type_expressions::{Text, value};
 use xc_type_rule::{Fault, Found, may_be_plain, may_be_used, note_type};
 use xc_type_scopes::Env;
+use xc_type_statement_parts::{
+    Answer, Begun, Copied, Header, awaited, begin_loop, block_made, captured, declaration,
+    declared_copies, eval_made, followed, future_made, headed, if_made, loop_made, one, returned,
+    returned_none, single, test_alone,
+};
 
 // Expressions.
 
@@ -426,7 +423,7 @@ fn for_inner(
 
 /// The copies and the body of a `future` statement.
 #[cycle(stated)]
-#[tactic(auto, using(crate::proofs::Parts::part_rules), unfolding(crate::specs::Futures::threaded))]
+#[tactic(auto, using(crate::proofs::Parts::part_rules), unfolding(xc_type_statement_parts::specs::Futures::threaded))]
 fn threaded(
     alloc: Global,
     text: &Text,
@@ -449,7 +446,7 @@ fn threaded(
 
 // What a `future` statement copies, and its body.
 #[cycle(stated)]
-#[tactic(auto, using(crate::proofs::Parts::part_rules), unfolding(crate::specs::Futures::begins))]
+#[tactic(auto, using(crate::proofs::Parts::part_rules), unfolding(xc_type_statement_parts::specs::Futures::begins))]
 fn begins(
     alloc: Global,
     text: &Text,

@@ -28,8 +28,8 @@ use Rattle.xc_type_expressions.specs.declared.text.Text.{Text}
 use Rattle.xc_type_expressions.specs.Places.{name_of, is_reserved}
 use Rattle.xc_type_expressions.specs.Types.{name_fault_unless}
 use Rattle.xc_type_expressions.specs.Judged.{judged, span_in, spot_in}
-use Rattle.xc_type_statements.specs.declared.answer.Answer.TheVariants as answer
-use Rattle.xc_type_statements.specs.Making.{one, followed}
+use Rattle.xc_type_statement_parts.specs.declared.answer.Answer.TheVariants as answer
+use Rattle.xc_type_statement_parts.specs.Making.{one, followed}
 use Rattle.xc_type_statements.specs.Stated.{statement}
 use Rattle.xc_type_unit.specs.declared.heads.Head.{Head}
 use Rattle.xc_type_unit.specs.declared.scope.FileScope.{FileScope}

@@ -22,7 +22,7 @@ use Rattle.xc_type_expressions.specs.declared.types.Declared.{Declared}
 use Rattle.xc_type_expressions.specs.Types.{bounds}
 use Rattle.xc_type_expressions.specs.Judged.{judged}
 use Rattle.xc_type_expressions.specs.Places.{name_of}
-use Rattle.xc_type_statements.specs.Declarations.{declared_object}
+use Rattle.xc_type_statement_parts.specs.Declarations.{declared_object}
 use Rattle.xc_raw.specs.Kinds.{is_void}
 
 -- types --------------------------------------------------------------------

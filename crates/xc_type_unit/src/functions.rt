@@ -22,7 +22,8 @@ use xc_type_lowering::lower_stmt;
 use xc_type_names::Scopes;
 use xc_type_rule::Fault;
 use xc_type_scopes::Env;
-use xc_type_statements::{Answer, body, one};
+use xc_type_statement_parts::{Answer, one};
+use xc_type_statements::body;
 
 // What a node defines: the number of a name.
 #[tactic(auto)]

@@ -21,7 +21,7 @@ use xc_type_declarators::{
 use xc_type_expressions::{Declared, Text, bounds_found, specified};
 use xc_type_rule::Fault;
 use xc_type_scopes::Env;
-use xc_type_statements::declare;
+use xc_type_statement_parts::declare;
 
 /// The declarator of a parameter: the parameter's node, the first token behind the specifiers, and the bounds.
 #[derive(Drop)]

@@ -10,7 +10,7 @@ use std::alloc::{AllocError, Global};
 use xc_text_place::Span;
 use xc_tree::{Func, Object, Ty};
 use xc_type_scopes::Env;
-use xc_type_statements::followed;
+use xc_type_statement_parts::followed;
 
 /// What stands at file scope so far.
 #[derive(Drop)]

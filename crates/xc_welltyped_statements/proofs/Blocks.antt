@@ -18,8 +18,8 @@ use Rattle.xc_type_scopes.specs.declared.env.Env.{Env}
 use Rattle.xc_type_scopes.specs.Env as env
 use Rattle.xc_type_scopes.specs.Judge.{Judge, give, and_then, in_block}
 use Rattle.xc_type_expressions.specs.declared.text.Text.{Text}
-use Rattle.xc_type_statements.specs.declared.answer.Answer.{Answer}
-use Rattle.xc_type_statements.specs.Making.{Stmts, stmt, followed, block_made}
+use Rattle.xc_type_statement_parts.specs.declared.answer.Answer.{Answer}
+use Rattle.xc_type_statement_parts.specs.Making.{Stmts, stmt, followed, block_made}
 use Rattle.xc_type_statements.specs.Stated.{statement, in_order, enclosed}
 use Rattle.xc_type_lowering.specs.Accessed.{stmt_accessed}
 use Rattle.xc_welltyped.proofs.Types.{or_left}

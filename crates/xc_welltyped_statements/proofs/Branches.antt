@@ -17,8 +17,8 @@ use Rattle.xc_parse_grammar.specs.Grammar.{is_stmt}
 use Rattle.xc_type_scopes.specs.declared.env.Env.{Env}
 use Rattle.xc_type_scopes.specs.Judge.{Judge, give, and_then}
 use Rattle.xc_type_expressions.specs.declared.text.Text.{Text}
-use Rattle.xc_type_statements.specs.declared.answer.Answer.{Answer}
-use Rattle.xc_type_statements.specs.Making.{Stmts, stmt, single, if_made}
+use Rattle.xc_type_statement_parts.specs.declared.answer.Answer.{Answer}
+use Rattle.xc_type_statement_parts.specs.Making.{Stmts, stmt, single, if_made}
 use Rattle.xc_type_statements.specs.Stated.{statement, tested, under, there, else_by, if_by}
 use Rattle.xc_type_lowering.specs.Accessed.{only_accessed, stmt_accessed}
 use Rattle.xc_welltyped.proofs.Types.{or_right}

@@ -30,8 +30,8 @@ use Rattle.xc_type_scopes.specs.Env as env
 use Rattle.xc_type_scopes.specs.Judge.{Judge, Judged, give, and_then}
 use Rattle.xc_type_expressions.specs.declared.text.Text.{Text}
 use Rattle.xc_type_expressions.specs.Places.{name_of, named, is_reserved}
-use Rattle.xc_type_statements.specs.declared.futures.Copied.{Copied}
-use Rattle.xc_type_statements.specs.Futures as futures
+use Rattle.xc_type_statement_parts.specs.declared.futures.Copied.{Copied}
+use Rattle.xc_type_statement_parts.specs.Futures as futures
 use Rattle.xc_welltyped.specs.Sound.{IsMade}
 use Rattle.xc_welltyped.proofs.Forms.{opened}
 use Rattle.xc_welltyped.proofs.Types.{pointee_of}

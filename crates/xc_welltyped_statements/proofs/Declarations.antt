@@ -24,9 +24,9 @@ use Rattle.xc_type_expressions.specs.declared.text.Text.{Text}
 use Rattle.xc_type_expressions.specs.declared.types.Declared.{Declared}
 use Rattle.xc_type_expressions.specs.Judged.{judged, span_in}
 use Rattle.xc_type_initialisers.specs.Initialisers.{local_inits}
-use Rattle.xc_type_statements.specs.declared.answer.Answer.{Answer}
-use Rattle.xc_type_statements.specs.Making.{Stmts, stmt, one, followed}
-use Rattle.xc_type_statements.specs.Declarations.{declared_object, initialised, declare_made, declares_by, declares, declares_all, declaration}
+use Rattle.xc_type_statement_parts.specs.declared.answer.Answer.{Answer}
+use Rattle.xc_type_statement_parts.specs.Making.{Stmts, stmt, one, followed}
+use Rattle.xc_type_statement_parts.specs.Declarations.{declared_object, initialised, declare_made, declares_by, declares, declares_all, declaration}
 use Rattle.xc_type_lowering.specs.Accessed.{only_accessed}
 use Rattle.xc_welltyped_claims.specs.Lists.{Each, Fresh}
 use Rattle.xc_welltyped_claims.specs.Types.{is_object_by, will_be_object}

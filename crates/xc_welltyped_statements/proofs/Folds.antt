@@ -12,9 +12,9 @@ use Rattle.xc_tree.specs.Typed.{Context}
 use Rattle.xc_tree.specs.Statements.{Leaving, leave_step, Sight, sight_step, stmt_step}
 use Rattle.xc_type_scopes.specs.declared.env.Env.{Env}
 use Rattle.xc_type_expressions.specs.declared.text.Text.{Text}
-use Rattle.xc_type_statements.specs.declared.answer.Answer.{Answer}
-use Rattle.xc_type_statements.specs.Answers.{answer_ty}
-use Rattle.xc_type_statements.specs.Making.{stmt}
+use Rattle.xc_type_statement_parts.specs.declared.answer.Answer.{Answer}
+use Rattle.xc_type_statement_parts.specs.Answers.{answer_ty}
+use Rattle.xc_type_statement_parts.specs.Making.{stmt}
 use Rattle.xc_type_lowering.specs.Accessed.{accessed_step}
 use Rattle.xc_welltyped_claims.specs.Lists.{StaysSet, Fresh}
 use Rattle.xc_welltyped_claims.specs.Env.{Into, Covers}

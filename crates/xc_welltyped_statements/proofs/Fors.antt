@@ -19,11 +19,11 @@ use Rattle.xc_type_scopes.specs.declared.env.Env.{Env}
 use Rattle.xc_type_scopes.specs.Env as env
 use Rattle.xc_type_scopes.specs.Judge.{Judge, give, and_then, in_block}
 use Rattle.xc_type_expressions.specs.declared.text.Text.{Text}
-use Rattle.xc_type_statements.specs.declared.answer.Answer.{Answer}
-use Rattle.xc_type_statements.specs.declared.make.Header.{Header}
-use Rattle.xc_type_statements.specs.declared.pragmas.Begun.{Begun}
-use Rattle.xc_type_statements.specs.Making.{Stmts, stmt, headed, loop_made}
-use Rattle.xc_type_statements.specs.Pragmas.{begun}
+use Rattle.xc_type_statement_parts.specs.declared.answer.Answer.{Answer}
+use Rattle.xc_type_statement_parts.specs.declared.make.Header.{Header}
+use Rattle.xc_type_statement_parts.specs.declared.pragmas.Begun.{Begun}
+use Rattle.xc_type_statement_parts.specs.Making.{Stmts, stmt, headed, loop_made}
+use Rattle.xc_type_statement_parts.specs.Pragmas.{begun}
 use Rattle.xc_type_statements.specs.Stated.{statement, tested, evaluated, there, under, test_clause, step_clause, clauses, repeated, for_inner, for_by}
 use Rattle.xc_type_lowering.specs.Accessed.{only_accessed}
 use Rattle.xc_welltyped.proofs.Types.{or_right}

@@ -30,12 +30,12 @@ use Rattle.xc_type_scopes.specs.Env.{has_address_at}
 use Rattle.xc_type_scopes.specs.Judge.{Judge, give, and_then, mapped}
 use Rattle.xc_type_expressions.specs.declared.text.Text.{Text}
 use Rattle.xc_type_expressions.specs.Judged.{span_in}
-use Rattle.xc_type_statements.specs.declared.answer.Answer.{Answer}
-use Rattle.xc_type_statements.specs.declared.answer.Answer.TheVariants as answer
-use Rattle.xc_type_statements.specs.declared.futures.Copied.{Copied}
-use Rattle.xc_type_statements.specs.Answers.{answer_ty}
-use Rattle.xc_type_statements.specs.Making.{stmt, future_made}
-use Rattle.xc_type_statements.specs.Futures as futures
+use Rattle.xc_type_statement_parts.specs.declared.answer.Answer.{Answer}
+use Rattle.xc_type_statement_parts.specs.declared.answer.Answer.TheVariants as answer
+use Rattle.xc_type_statement_parts.specs.declared.futures.Copied.{Copied}
+use Rattle.xc_type_statement_parts.specs.Answers.{answer_ty}
+use Rattle.xc_type_statement_parts.specs.Making.{stmt, future_made}
+use Rattle.xc_type_statement_parts.specs.Futures as futures
 use Rattle.xc_type_statements.specs.Stated.{statement, future_by}
 use Rattle.xc_type_lowering.specs.Accessed.{only_accessed, use_of}
 use Rattle.xc_welltyped.specs.Sound.{known_ok, Stands, IsPlace}

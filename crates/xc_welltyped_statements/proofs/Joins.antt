@@ -9,7 +9,7 @@ use Rattle.xc_tree.specs.Statements.{leaves_ok, sees_all, added, stmt_ok}
 use Rattle.xc_tree.proofs.Lists.{and_left, and_right, and_both}
 use Rattle.xc_type_scopes.specs.declared.env.Env.{Env}
 use Rattle.xc_type_expressions.specs.declared.text.Text.{Text}
-use Rattle.xc_type_statements.specs.declared.answer.Answer.{Answer}
+use Rattle.xc_type_statement_parts.specs.declared.answer.Answer.{Answer}
 use Rattle.xc_type_lowering.specs.Accessed.{stmt_accessed}
 use Rattle.xc_welltyped_claims.specs.Lists.{Fresh}
 use Rattle.xc_welltyped_claims.specs.Things.{InScopes, SeenThing}

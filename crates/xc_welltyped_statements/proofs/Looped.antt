@@ -15,11 +15,11 @@ use Rattle.xc_tree.specs.Statements.{header_ok, test_ok, stmt_ok, leaves_ok, see
 use Rattle.xc_tree.proofs.Lists.{and_both}
 use Rattle.xc_type_scopes.specs.declared.env.Env.{Env}
 use Rattle.xc_type_expressions.specs.declared.text.Text.{Text}
-use Rattle.xc_type_statements.specs.declared.answer.Answer.{Answer}
-use Rattle.xc_type_statements.specs.declared.make.Header.{Header}
-use Rattle.xc_type_statements.specs.declared.pragmas.Begun.{Begun}
-use Rattle.xc_type_statements.specs.Answers.{answer_ty}
-use Rattle.xc_type_statements.specs.Making.{Stmts, stmt, headed, test_alone, loop_made}
+use Rattle.xc_type_statement_parts.specs.declared.answer.Answer.{Answer}
+use Rattle.xc_type_statement_parts.specs.declared.make.Header.{Header}
+use Rattle.xc_type_statement_parts.specs.declared.pragmas.Begun.{Begun}
+use Rattle.xc_type_statement_parts.specs.Answers.{answer_ty}
+use Rattle.xc_type_statement_parts.specs.Making.{Stmts, stmt, headed, test_alone, loop_made}
 use Rattle.xc_type_lowering.specs.Accessed.{only_accessed, stmt_accessed}
 use Rattle.xc_welltyped_claims.specs.Lists.{Each, StaysSet, Fresh}
 use Rattle.xc_welltyped_claims.specs.Env.{Into, Covers}

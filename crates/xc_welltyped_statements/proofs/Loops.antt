@@ -17,10 +17,10 @@ use Rattle.xc_raw.specs.declared.tree.Raw.{Raw}
 use Rattle.xc_type_scopes.specs.declared.env.Env.{Env}
 use Rattle.xc_type_scopes.specs.Judge.{Judge, give, and_then}
 use Rattle.xc_type_expressions.specs.declared.text.Text.{Text}
-use Rattle.xc_type_statements.specs.declared.answer.Answer.{Answer}
-use Rattle.xc_type_statements.specs.declared.pragmas.Begun.{Begun}
-use Rattle.xc_type_statements.specs.Making.{stmt, test_alone, loop_made}
-use Rattle.xc_type_statements.specs.Pragmas.{begun}
+use Rattle.xc_type_statement_parts.specs.declared.answer.Answer.{Answer}
+use Rattle.xc_type_statement_parts.specs.declared.pragmas.Begun.{Begun}
+use Rattle.xc_type_statement_parts.specs.Making.{stmt, test_alone, loop_made}
+use Rattle.xc_type_statement_parts.specs.Pragmas.{begun}
 use Rattle.xc_type_statements.specs.Stated.{statement, tested, under, while_by, do_by}
 use Rattle.xc_welltyped_claims.specs.Lists.{Each, Fresh}
 use Rattle.xc_welltyped_claims.specs.Things.{InScopes, SeenThing}

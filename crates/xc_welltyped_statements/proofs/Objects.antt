@@ -12,7 +12,7 @@ use Rattle.xc_type_scopes.specs.declared.env.Env.{Env}
 use Rattle.xc_type_scopes.specs.Env as env
 use Rattle.xc_type_scopes.specs.Env.{has_address}
 use Rattle.xc_type_expressions.specs.declared.types.Declared.{Declared}
-use Rattle.xc_type_statements.specs.Declarations.{object_by, declared_object}
+use Rattle.xc_type_statement_parts.specs.Declarations.{object_by, declared_object}
 use Rattle.xc_welltyped_claims.specs.Lists.{StaysSet}
 use Rattle.xc_welltyped_claims.specs.Types.{is_object_by}
 use Rattle.xc_welltyped_claims.specs.Things.{OwnThing, SeenThing}

@@ -27,11 +27,11 @@ use Rattle.xc_type_expressions.specs.Roles.{value}
 use Rattle.xc_type_expressions.specs.Places.{name_of, named}
 use Rattle.xc_type_expressions.specs.Judged.{judged, span_in}
 use Rattle.xc_type_initialisers.specs.Initialisers.{Initialiser, placed, fitted, valued, in_turn, braced, given_by, initialiser_of, initialiser, local_inits, global_inits}
-use Rattle.xc_type_statements.specs.declared.answer.Answer.{Answer}
-use Rattle.xc_type_statements.specs.declared.futures.Copied.{Copied}
-use Rattle.xc_type_statements.specs.Pragmas.{begun}
-use Rattle.xc_type_statements.specs.Declarations.{with_name, object_by, declared_object, initialised, declares_by, declares, declares_all, declaration}
-use Rattle.xc_type_statements.specs.Futures as futures
+use Rattle.xc_type_statement_parts.specs.declared.answer.Answer.{Answer}
+use Rattle.xc_type_statement_parts.specs.declared.futures.Copied.{Copied}
+use Rattle.xc_type_statement_parts.specs.Pragmas.{begun}
+use Rattle.xc_type_statement_parts.specs.Declarations.{with_name, object_by, declared_object, initialised, declares_by, declares, declares_all, declaration}
+use Rattle.xc_type_statement_parts.specs.Futures as futures
 use Rattle.xc_type_statements.specs.Stated.{Part, in_order, enclosed, tested, evaluated, eval_by, return_by, clause_by, test_clause, step_clause, else_by, if_by, while_by, do_by, clauses, repeated, for_inner, for_by, future_by, plain_by, stmt_by, stated_by, part_of, statement}
 use Rattle.xc_welltyped_claims.specs.Lists.{Each}
 use Rattle.xc_welltyped_claims.specs.Judges.{Passing}

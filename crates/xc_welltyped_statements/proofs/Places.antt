@@ -10,7 +10,7 @@ use Rattle.xc_type_structs.specs.declared.structs.Structs.{Structs}
 use Rattle.xc_type_scopes.specs.declared.env.Env.{Env}
 use Rattle.xc_type_scopes.specs.Env as env
 use Rattle.xc_type_expressions.specs.declared.text.Text.{Text}
-use Rattle.xc_type_statements.specs.declared.answer.Answer.{Answer}
+use Rattle.xc_type_statement_parts.specs.declared.answer.Answer.{Answer}
 use Rattle.xc_welltyped_claims.specs.Lists.{StartsWith}
 use Rattle.xc_welltyped_claims.specs.Table.{struct_tys}
 use Rattle.xc_welltyped_claims.specs.Things.{OwnThing, IsTag, SeenThing, InScopes}

@@ -34,7 +34,7 @@ use Rattle.xc_welltyped_rules.specs.Agrees.{global_ok}
 use Rattle.xc_type_scopes.specs.declared.env.Env.{Env}
 use Rattle.xc_type_scopes.specs.Env as env
 use Rattle.xc_type_expressions.specs.declared.text.Text.{Text as Source}
-use Rattle.xc_type_statements.specs.Pragmas.{name_in, number_at, object_of, named_by, thing_of, said_at, said, begun}
+use Rattle.xc_type_statement_parts.specs.Pragmas.{name_in, number_at, object_of, named_by, thing_of, said_at, said, begun}
 use Rattle.xc_welltyped_claims.specs.Lists.{Each}
 use Rattle.xc_welltyped_claims.specs.Things.{FileThing, OwnThing, SeenThing, HasThing}
 use Rattle.xc_welltyped_claims.specs.Env.{Good, Ready, Into, Covers}

@@ -24,7 +24,7 @@ use Rattle.xc_type_expressions.specs.declared.text.Text.{Text}
 use Rattle.xc_type_expressions.specs.Roles.{value}
 use Rattle.xc_type_expressions.specs.Places.{name_of, named, indexed, dotted, arrowed}
 use Rattle.xc_type_expressions.specs.Judged.{judged}
-use Rattle.xc_type_statements.specs.Futures as futures
+use Rattle.xc_type_statement_parts.specs.Futures as futures
 use Rattle.xc_welltyped_claims.specs.Lists.{Each}
 use Rattle.xc_welltyped_claims.specs.Env.{Good}
 use Rattle.xc_welltyped_claims.specs.Judges.{Clean, Given, Gives}

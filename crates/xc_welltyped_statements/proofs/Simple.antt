@@ -23,10 +23,10 @@ use Rattle.xc_type_scopes.specs.Judge.{Judge, give, and_then}
 use Rattle.xc_type_expressions.specs.declared.text.Text.{Text}
 use Rattle.xc_type_expressions.specs.Roles.{value}
 use Rattle.xc_type_expressions.specs.Judged.{judged, span_in}
-use Rattle.xc_type_statements.specs.declared.answer.Answer.{Answer}
-use Rattle.xc_type_statements.specs.declared.answer.Answer.TheVariants as answer
-use Rattle.xc_type_statements.specs.Answers.{answer_ty, may_be_given, may_be_absent, returned_value, return_part, return_faults}
-use Rattle.xc_type_statements.specs.Making.{stmt, eval_made}
+use Rattle.xc_type_statement_parts.specs.declared.answer.Answer.{Answer}
+use Rattle.xc_type_statement_parts.specs.declared.answer.Answer.TheVariants as answer
+use Rattle.xc_type_statement_parts.specs.Answers.{answer_ty, may_be_given, may_be_absent, returned_value, return_part, return_faults}
+use Rattle.xc_type_statement_parts.specs.Making.{stmt, eval_made}
 use Rattle.xc_type_statements.specs.Stated.{tested, evaluated, eval_by, return_by, leaving}
 use Rattle.xc_welltyped.specs.Sound.{Point, known_ok}
 use Rattle.xc_welltyped.proofs.Nulls.{given_sound}

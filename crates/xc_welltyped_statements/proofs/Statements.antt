@@ -17,9 +17,9 @@ use Rattle.xc_type_scopes.specs.Env as env
 use Rattle.xc_type_scopes.specs.Judge.{Judge, give, mapped, framed}
 use Rattle.xc_type_expressions.specs.declared.text.Text.{Text}
 use Rattle.xc_type_expressions.specs.Judged.{judged, span_in}
-use Rattle.xc_type_statements.specs.declared.answer.Answer.{Answer}
-use Rattle.xc_type_statements.specs.Making.{Stmts, stmt, one, eval_made}
-use Rattle.xc_type_statements.specs.Declarations.{declaration}
+use Rattle.xc_type_statement_parts.specs.declared.answer.Answer.{Answer}
+use Rattle.xc_type_statement_parts.specs.Making.{Stmts, stmt, one, eval_made}
+use Rattle.xc_type_statement_parts.specs.Declarations.{declaration}
 use Rattle.xc_type_statements.specs.Stated.{statement, stated_by, stmt_by, plain_by, enclosed, in_order, clause_by, eval_by, return_by, leaving, future_by, evaluated}
 use Rattle.xc_welltyped.proofs.Types.{or_left, or_right}
 use Rattle.xc_welltyped_claims.specs.Lists.{Each}

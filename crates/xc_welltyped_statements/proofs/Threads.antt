@@ -17,10 +17,10 @@ use Rattle.xc_type_structs.specs.declared.structs.Structs.{Structs}
 use Rattle.xc_type_scopes.specs.declared.env.Env.{Env}
 use Rattle.xc_type_scopes.specs.Judge.{Judge, give, and_then}
 use Rattle.xc_type_expressions.specs.declared.text.Text.{Text}
-use Rattle.xc_type_statements.specs.declared.futures.Copied.{Copied}
-use Rattle.xc_type_statements.specs.Making.{one, followed}
-use Rattle.xc_type_statements.specs.Declarations.{declared_object}
-use Rattle.xc_type_statements.specs.Futures as futures
+use Rattle.xc_type_statement_parts.specs.declared.futures.Copied.{Copied}
+use Rattle.xc_type_statement_parts.specs.Making.{one, followed}
+use Rattle.xc_type_statement_parts.specs.Declarations.{declared_object}
+use Rattle.xc_type_statement_parts.specs.Futures as futures
 use Rattle.xc_type_lowering.specs.Accessed.{only_accessed}
 use Rattle.xc_welltyped.proofs.Types.{or_left, or_right, eqb_refl, same_ty_refl}
 use Rattle.xc_welltyped_claims.specs.Lists.{Each, StaysSet, Fresh}

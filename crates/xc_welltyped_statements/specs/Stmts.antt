@@ -16,10 +16,10 @@ use Rattle.xc_type_scopes.specs.declared.env.Env.{Env}
 use Rattle.xc_type_scopes.specs.Env.{has_address}
 use Rattle.xc_type_scopes.specs.Judge.{Judge}
 use Rattle.xc_type_expressions.specs.declared.text.Text.{Text}
-use Rattle.xc_type_statements.specs.declared.answer.Answer.{Answer}
-use Rattle.xc_type_statements.specs.declared.pragmas.Begun.{Begun}
-use Rattle.xc_type_statements.specs.Answers.{answer_ty}
-use Rattle.xc_type_statements.specs.Making.{Stmts}
+use Rattle.xc_type_statement_parts.specs.declared.answer.Answer.{Answer}
+use Rattle.xc_type_statement_parts.specs.declared.pragmas.Begun.{Begun}
+use Rattle.xc_type_statement_parts.specs.Answers.{answer_ty}
+use Rattle.xc_type_statement_parts.specs.Making.{Stmts}
 use Rattle.xc_type_statements.specs.Stated.{Part}
 use Rattle.xc_type_lowering.specs.Accessed.{stmt_accessed}
 use Rattle.xc_welltyped_claims.specs.Lists.{Each, StaysSet, Fresh}

@@ -13,7 +13,7 @@ use Rattle.xc_type_names.specs.Scoped.{found_in, left}
 use Rattle.xc_type_scopes.specs.declared.env.Env.{Env}
 use Rattle.xc_type_scopes.specs.Env as env
 use Rattle.xc_type_expressions.specs.declared.text.Text.{Text}
-use Rattle.xc_type_statements.specs.Making.{followed}
+use Rattle.xc_type_statement_parts.specs.Making.{followed}
 use Rattle.xc_type_unit.specs.declared.heads.Head.{Head}
 use Rattle.xc_type_unit.specs.declared.scope.FileScope.{FileScope}
 use Rattle.xc_type_unit.specs.Functions.{Bodies, main_of}

@@ -16,7 +16,7 @@ use Rattle.xc_type_scopes.specs.declared.env.Env.{Env}
 use Rattle.xc_type_scopes.specs.Env as env
 use Rattle.xc_type_expressions.specs.declared.text.Text.{Text}
 use Rattle.xc_type_expressions.specs.Judged.{judged}
-use Rattle.xc_type_statements.specs.Making.{one, followed}
+use Rattle.xc_type_statement_parts.specs.Making.{one, followed}
 use Rattle.xc_type_unit.specs.declared.heads.Head.{Head}
 use Rattle.xc_type_unit.specs.declared.scope.FileScope.{FileScope}
 use Rattle.xc_type_unit.specs.Items.{Item, by_part}

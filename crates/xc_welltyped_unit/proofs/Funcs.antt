@@ -29,7 +29,7 @@ use Rattle.xc_type_lowering.proofs.Folded.{leaves_kept, sees_kept, ids_kept, dec
 use Rattle.xc_type_lowering.proofs.Statements.{stmt_typed}
 use Rattle.xc_type_expressions.specs.declared.text.Text.{Text}
 use Rattle.xc_type_expressions.specs.Types.{name_fault_unless}
-use Rattle.xc_type_statements.specs.declared.answer.Answer.TheVariants as answer
+use Rattle.xc_type_statement_parts.specs.declared.answer.Answer.TheVariants as answer
 use Rattle.xc_type_statements.specs.Stated.{statement}
 use Rattle.xc_type_unit.specs.declared.heads.Head.{Head}
 use Rattle.xc_type_unit.specs.declared.scope.FileScope.{FileScope}

@@ -12,7 +12,7 @@ use Rattle.xc_type_scopes.specs.Judge.{Judge}
 use Rattle.xc_type_expressions.specs.declared.text.Text.{Text}
 use Rattle.xc_type_expressions.specs.declared.types.Declared.{Declared}
 use Rattle.xc_type_expressions.specs.Judged.{judged}
-use Rattle.xc_type_statements.specs.declared.answer.Answer.TheVariants as answer
+use Rattle.xc_type_statement_parts.specs.declared.answer.Answer.TheVariants as answer
 use Rattle.xc_type_unit.specs.declared.scope.FileScope.{FileScope}
 use Rattle.xc_type_unit.specs.declared.heads.Head.{Head}
 use Rattle.xc_type_unit.specs.Items.{Item, by_part, in_turn}

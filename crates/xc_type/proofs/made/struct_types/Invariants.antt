@@ -1,5 +1,5 @@
 use Rattle.std.proofs.Common.{◌≡◌, drop, map}
-use Rattle.xc_type_statements.specs.Making.{followed, all_made}
+use Rattle.xc_type_statement_parts.specs.Making.{followed, all_made}
 use Rattle.xc_type.specs.Checked.{known_types}
 use Rattle.xc_type.proofs.made.struct_types.Given as goal
 

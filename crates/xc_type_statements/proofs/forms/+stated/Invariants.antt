@@ -1,6 +1,6 @@
 use Rattle.std.proofs.Common.{◌≡◌, drop, map}
 use Rattle.xc_type_rule.specs.Least.{least_from}
-use Rattle.xc_type_statements.specs.Making.{followed}
+use Rattle.xc_type_statement_parts.specs.Making.{followed}
 use Rattle.xc_type_statements.specs.Stated.{in_order, statement}
 use Rattle.xc_type_statements.proofs.forms.+stated.Given as goal
 

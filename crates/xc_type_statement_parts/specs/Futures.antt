@@ -27,11 +27,11 @@ use Rattle.xc_type_expressions.specs.declared.text.Text.{Text}
 use Rattle.xc_type_expressions.specs.Roles.{value}
 use Rattle.xc_type_expressions.specs.Places.{name_of, named, dotted, arrowed}
 use Rattle.xc_type_expressions.specs.Judged.{judged}
-use Rattle.xc_type_statements.specs.declared.futures.Copied.{Copied}
-use Rattle.xc_type_statements.specs.declared.answer.Answer.{Answer}
-use Rattle.xc_type_statements.specs.declared.answer.Answer.TheVariants as answer
-use Rattle.xc_type_statements.specs.Making.{one, followed}
-use Rattle.xc_type_statements.specs.Declarations.{declared_object}
+use Rattle.xc_type_statement_parts.specs.declared.futures.Copied.{Copied}
+use Rattle.xc_type_statement_parts.specs.declared.answer.Answer.{Answer}
+use Rattle.xc_type_statement_parts.specs.declared.answer.Answer.TheVariants as answer
+use Rattle.xc_type_statement_parts.specs.Making.{one, followed}
+use Rattle.xc_type_statement_parts.specs.Declarations.{declared_object}
 
 -- places -------------------------------------------------------------------
 

@@ -1,8 +1,8 @@
 use Rattle.std.proofs.Common.{◌≡◌, drop}
 use Rattle.xc_type_rule.specs.Least.{least_from}
-use Rattle.xc_type_statements.specs.Making.{followed}
-use Rattle.xc_type_statements.specs.Futures.{copied}
-use Rattle.xc_type_statements.proofs.futures.declared_copies.Given as goal
+use Rattle.xc_type_statement_parts.specs.Making.{followed}
+use Rattle.xc_type_statement_parts.specs.Futures.{copied}
+use Rattle.xc_type_statement_parts.proofs.futures.declared_copies.Given as goal
 
 abbrev pub invariant-copies : goal.invariant-copies
 invariant-copies l =

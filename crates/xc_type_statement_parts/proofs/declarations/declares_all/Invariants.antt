@@ -1,8 +1,8 @@
 use Rattle.std.proofs.Common.{◌≡◌, drop}
 use Rattle.xc_type_rule.specs.Least.{least_from}
-use Rattle.xc_type_statements.specs.Making.{followed}
-use Rattle.xc_type_statements.specs.Declarations.{declares_all}
-use Rattle.xc_type_statements.proofs.declarations.declares_all.Given as goal
+use Rattle.xc_type_statement_parts.specs.Making.{followed}
+use Rattle.xc_type_statement_parts.specs.Declarations.{declares_all}
+use Rattle.xc_type_statement_parts.proofs.declarations.declares_all.Given as goal
 
 abbrev pub invariant-nodes : goal.invariant-nodes
 invariant-nodes l =

@@ -1,7 +1,7 @@
 //! How statements are put together.
 
 ghost use Rattle.std.specs.Prelude.{◌≡◌, IfOk};
-ghost use Rattle.xc_type_statements.specs.Making as spec;
+ghost use Rattle.xc_type_statement_parts.specs.Making as spec;
 
 use crate::pragmas::Begun;
 use sqlite_items::{Boxed, Items};
@@ -64,7 +64,7 @@ pub(crate) fn with_one<T: Drop>(
 }
 
 #[tactic(auto, unfolding(crate::specs::Making::single))]
-pub(crate) fn single(all: Option<Items<Stmt>>) -> Option<Stmt>
+pub fn single(all: Option<Items<Stmt>>) -> Option<Stmt>
     ensures { result ≡ spec.single all }
 {
     match all {
@@ -80,7 +80,7 @@ pub(crate) fn single(all: Option<Items<Stmt>>) -> Option<Stmt>
 }
 
 #[tactic(auto, unfolding(crate::specs::Making::eval_made))]
-pub(crate) fn eval_made(span: Span, e: Option<Expr>) -> Option<Stmt>
+pub fn eval_made(span: Span, e: Option<Expr>) -> Option<Stmt>
     ensures { result ≡ spec.eval_made span e }
 {
     match e {
@@ -93,7 +93,7 @@ pub(crate) fn eval_made(span: Span, e: Option<Expr>) -> Option<Stmt>
 }
 
 #[tactic(auto, unfolding(crate::specs::Making::block_made))]
-pub(crate) fn block_made(span: Span, all: Option<Items<Stmt>>) -> Option<Stmt>
+pub fn block_made(span: Span, all: Option<Items<Stmt>>) -> Option<Stmt>
     ensures { result ≡ spec.block_made span all }
 {
     match all {
@@ -144,7 +144,7 @@ fn if_of(
     }
 }
 
-pub(crate) fn if_made(
+pub fn if_made(
     alloc: Global,
     span: Span,
     test: Option<Expr>,
@@ -172,7 +172,7 @@ fn if_then(
 }
 
 #[tactic(auto, unfolding(crate::specs::Making::headed))]
-pub(crate) fn headed(
+pub fn headed(
     init: Option<Items<Stmt>>,
     test: Option<Option<Expr>>,
     step: Option<Option<Expr>>,
@@ -186,7 +186,7 @@ pub(crate) fn headed(
 }
 
 #[tactic(auto, unfolding(crate::specs::Making::test_alone, crate::specs::Making::headed))]
-pub(crate) fn test_alone(alloc: Global, test: Option<Expr>) -> Option<Header>
+pub fn test_alone(alloc: Global, test: Option<Expr>) -> Option<Header>
     ensures { result ≡ spec.test_alone test }
 {
     match test {
@@ -199,7 +199,7 @@ pub(crate) fn test_alone(alloc: Global, test: Option<Expr>) -> Option<Header>
     }
 }
 
-pub(crate) fn loop_made(
+pub fn loop_made(
     alloc: Global,
     span: Span,
     form: LoopForm,
@@ -247,7 +247,7 @@ fn loop_of(
     }
 }
 
-pub(crate) fn future_made(
+pub fn future_made(
     alloc: Global,
     span: Span,
     place: Option<Expr>,

@@ -1,7 +1,7 @@
 use Rattle.std.proofs.Common.{◌≡◌, drop}
 use Rattle.xc_type_rule.specs.Least.{least_from}
-use Rattle.xc_type_statements.specs.Futures as spec
-use Rattle.xc_type_statements.proofs.futures.reached.Given as goal
+use Rattle.xc_type_statement_parts.specs.Futures as spec
+use Rattle.xc_type_statement_parts.proofs.futures.reached.Given as goal
 
 abbrev pub invariant-steps : goal.invariant-steps
 invariant-steps l =

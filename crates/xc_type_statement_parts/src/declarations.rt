@@ -3,7 +3,7 @@
 ghost use Rattle.std.specs.Prelude.{◌≡◌, Some, IfOk, OnOk};
 ghost use Rattle.xc_type_scopes.specs.Env.{next_local};
 ghost use Rattle.xc_type_scopes.specs.Judge.{Judges};
-ghost use Rattle.xc_type_statements.specs.Declarations as spec;
+ghost use Rattle.xc_type_statement_parts.specs.Declarations as spec;
 
 use crate::make::with_one;
 use sqlite_items::Items;
@@ -162,7 +162,7 @@ fn declares_all(
 
 /// A declaration in a block, or in a `for`: its specifiers and what they declare.
 #[tactic(auto, using(crate::proofs::Parts::part_rules), unfolding(crate::specs::Declarations::declaration))]
-pub(crate) fn declaration(
+pub fn declaration(
     alloc: Global,
     text: &Text,
     env: &mut Env,

@@ -12,9 +12,9 @@ use Rattle.xc_type_rule.specs.declared.found.Known.{Known}
 use Rattle.xc_type_rule.specs.Least.{fault_unless}
 use Rattle.xc_type_rule.specs.Tests.{may_be}
 use Rattle.xc_type_rule_operators.specs.Operators.{suited}
-use Rattle.xc_type_statements.specs.declared.answer.Answer.{Answer}
-use Rattle.xc_type_statements.specs.declared.answer.Answer.TheVariants as answer
-use Rattle.xc_type_statements.specs.Making.{stmt}
+use Rattle.xc_type_statement_parts.specs.declared.answer.Answer.{Answer}
+use Rattle.xc_type_statement_parts.specs.declared.answer.Answer.TheVariants as answer
+use Rattle.xc_type_statement_parts.specs.Making.{stmt}
 
 -- its type, none where that is unknown because of a fault
 abbrev pub answer_ty : Answer → Option Ty

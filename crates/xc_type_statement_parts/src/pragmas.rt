@@ -5,7 +5,7 @@ ghost use Rattle.std.specs.Option.{option_copied};
 ghost use Rattle.xc_tree.specs.Types.{holds_pointer};
 ghost use Rattle.xc_type_pragmas.specs.Said.{pragma_of};
 ghost use Rattle.xc_type_pragmas.specs.Set.{settings_of};
-ghost use Rattle.xc_type_statements.specs.Pragmas as spec;
+ghost use Rattle.xc_type_statement_parts.specs.Pragmas as spec;
 
 use sqlite_items::Items;
 use std::alloc::{AllocError, Global};
@@ -123,12 +123,7 @@ fn settings(alloc: Global, text: &Text, env: &Env) -> Result<Settings, AllocErro
 
 /// The loop begins whose keyword stands at `at`.
 #[tactic(auto, unfolding(crate::specs::Pragmas::begun))]
-pub(crate) fn begin_loop(
-    alloc: Global,
-    text: &Text,
-    env: &mut Env,
-    at: u32,
-) -> Result<Begun, AllocError>
+pub fn begin_loop(alloc: Global, text: &Text, env: &mut Env, at: u32) -> Result<Begun, AllocError>
     ensures part { IfOk result (λ r. r ≡ (spec.begun text.now at env.old).part) }
     ensures env { OnOk result (env.new ≡ (spec.begun text.now at env.old).env) }
 {

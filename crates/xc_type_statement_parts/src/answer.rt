@@ -3,7 +3,7 @@
 ghost use Rattle.std.specs.Prelude.{◌≡◌, IfOk, OnOk};
 ghost use Rattle.xc_type_rule.specs.Least.{least_from};
 ghost use Rattle.xc_type_rule_operators.specs.Operators.{suited};
-ghost use Rattle.xc_type_statements.specs.Answers as spec;
+ghost use Rattle.xc_type_statement_parts.specs.Answers as spec;
 
 use std::alloc::{AllocError, Global};
 use xc_text_place::Span;
@@ -59,7 +59,7 @@ fn suited(alloc: Global, ty: &Option<Ty>, value: Found) -> Result<Found, AllocEr
 
 /// `return;`
 #[tactic(auto, using(xc_type_rule::proofs::Least::least_rules))]
-pub(crate) fn returned_none(span: Span, answer: &Answer, first: &mut Option<Fault>) -> Option<Stmt>
+pub fn returned_none(span: Span, answer: &Answer, first: &mut Option<Fault>) -> Option<Stmt>
     ensures part { result ≡ spec.absent_part span }
     ensures first { first.new ≡ least_from first.old (spec.absent_faults span answer.now) }
 {
@@ -74,7 +74,7 @@ pub(crate) fn returned_none(span: Span, answer: &Answer, first: &mut Option<Faul
 
 /// `return` of a value.
 #[tactic(auto, using(xc_type_rule::proofs::Least::least_rules))]
-pub(crate) fn returned(
+pub fn returned(
     alloc: Global,
     span: Span,
     answer: &Answer,

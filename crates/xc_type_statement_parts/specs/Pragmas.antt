@@ -20,7 +20,7 @@ use Rattle.xc_type_scopes.specs.declared.env.Env.{Env}
 use Rattle.xc_type_scopes.specs.Env as env
 use Rattle.xc_type_scopes.specs.Judge.{Judge}
 use Rattle.xc_type_expressions.specs.declared.text.Text.{Text}
-use Rattle.xc_type_statements.specs.declared.pragmas.Begun.{Begun}
+use Rattle.xc_type_statement_parts.specs.declared.pragmas.Begun.{Begun}
 
 -- names --------------------------------------------------------------------
 

@@ -1,7 +1,7 @@
 use Rattle.std.proofs.Common.{◌≡◌, ◌++◌, drop}
 use Rattle.xc_type_rule.specs.Least.{least_from}
-use Rattle.xc_type_statements.specs.Futures.{copies}
-use Rattle.xc_type_statements.proofs.futures.copies.Given as goal
+use Rattle.xc_type_statement_parts.specs.Futures.{copies}
+use Rattle.xc_type_statement_parts.proofs.futures.copies.Given as goal
 
 abbrev pub invariant-tokens : goal.invariant-tokens
 invariant-tokens l =

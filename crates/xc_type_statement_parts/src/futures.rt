@@ -2,7 +2,7 @@
 
 ghost use Rattle.std.specs.Prelude.{◌≡◌, IfOk};
 ghost use Rattle.xc_type_scopes.specs.Judge.{Judges};
-ghost use Rattle.xc_type_statements.specs.Futures as spec;
+ghost use Rattle.xc_type_statement_parts.specs.Futures as spec;
 
 use crate::answer::Answer;
 use crate::declarations::declare;
@@ -178,7 +178,7 @@ fn may_be_future(place: &Known) -> bool
 
 /// The place of a `future` statement that `span` covers, and what its body leaves there.
 #[tactic(auto, using(crate::proofs::Parts::part_rules), unfolding(crate::specs::Futures::awaited))]
-pub(crate) fn awaited(
+pub fn awaited(
     alloc: Global,
     text: &Text,
     env: &mut Env,
@@ -266,7 +266,7 @@ fn copies(
 }
 
 /// What the body of a `future` statement copies.
-pub(crate) fn captured(
+pub fn captured(
     alloc: Global,
     text: &Text,
     env: &Env,
@@ -312,7 +312,7 @@ fn capture(
 
 /// The copies are declared in the body.
 #[tactic(auto, using(crate::proofs::Parts::part_rules), unfolding(crate::specs::Futures::copied))]
-pub(crate) fn declared_copies(
+pub fn declared_copies(
     alloc: Global,
     env: &mut Env,
     copies: &[Copied],

@@ -17,7 +17,7 @@ use Rattle.xc_type_expressions.specs.Places.{is_reserved}
 use Rattle.xc_type_expressions.specs.Types.{name_fault_unless}
 use Rattle.xc_type_expressions.specs.Judged.{judged, span_in}
 use Rattle.xc_type_initialisers.specs.Initialisers.{local_inits}
-use Rattle.xc_type_statements.specs.Making.{Stmts, stmt, one, followed}
+use Rattle.xc_type_statement_parts.specs.Making.{Stmts, stmt, one, followed}
 
 -- names --------------------------------------------------------------------
 

@@ -6,8 +6,8 @@ use Rattle.xc_tree.specs.declared.stmt.Stmt.{Stmt}
 use Rattle.xc_tree.specs.declared.stmt.StmtKind.{StmtKind, Eval, Block, If, Loop, Future}
 use Rattle.xc_tree.specs.declared.stmt.LoopForm.{LoopForm}
 use Rattle.xc_tree.specs.declared.stmt.Capture.{Capture}
-use Rattle.xc_type_statements.specs.declared.make.Header.{Header}
-use Rattle.xc_type_statements.specs.declared.pragmas.Begun.{Begun}
+use Rattle.xc_type_statement_parts.specs.declared.make.Header.{Header}
+use Rattle.xc_type_statement_parts.specs.declared.pragmas.Begun.{Begun}
 
 -- the statements that a part of a text makes
 abbrev pub Stmts : Type 0
