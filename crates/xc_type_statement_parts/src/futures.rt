@@ -15,7 +15,7 @@ use xc_raw_parts::{PlaceStep, captured_names, place_steps, spot};
 use xc_text_place::Span;
 use xc_tree::{Capture, Expr, Ty, copy_expr, copy_ty};
 use xc_type_expressions::{Declared, Text, arrowed, dotted, named, value};
-use xc_type_rule::{Fault, Found, Known, is_plain, note_type, rvalue, unknown_place};
+use xc_type_rule::{Fault, Found, Known, is_plain, note_lost, note_type, rvalue, unknown_place};
 use xc_type_rule_places::index;
 use xc_type_scopes::Env;
 
@@ -79,7 +79,8 @@ fn member(
     match access {
         Access::Dot => dotted(alloc, env, whole, named_at, number, base, first),
         Access::Arrow => {
-            let p = rvalue(alloc, env.structs().sizes(), before, base, first)?;
+            note_lost(before, &base.known, first);
+            let p = rvalue(alloc, env.structs().sizes(), before, base)?;
             arrowed(alloc, env, whole, named_at, number, p, first)
         }
     }
@@ -233,10 +234,8 @@ fn copy_of(
     let variable = named(alloc, env, at, name, first)?;
     let ty = variable_ty(alloc, &variable.known);
     let fine = may_be_variable(&variable.known);
-    let (v, ty) = both(
-        rvalue(alloc, env.structs().sizes(), at, variable, first),
-        ty,
-    )?;
+    note_lost(at, &variable.known, first);
+    let (v, ty) = both(rvalue(alloc, env.structs().sizes(), at, variable), ty)?;
     if !fine {
         note_type(first, at);
     }
