@@ -1,37 +1,70 @@
 -- One step of the machine, as a step of a thread: by the kind of its effect, and by whose it is.
 use Rattle.std.proofs.Common.{◌≡◌, ℕ, zero, suc, ◌+◌, ◌-◌, ◌*◌, ◌^◌, ◌<◌, ◌≤◌, List, [], ◌∷◌, ◌++◌, length, Option, Some, None, Bool, true, false, cond, refl, sym, ap, ◌∙◌, subst, arith, inl, inr, ⊎_elim, append-nil, length-append}
 use Rattle.std.specs.Prelude.{nat_lt, slice_get, slice_set}
+use Rattle.std.proofs.lemmas.Bool.{ltb-true}
 use Rattle.std.proofs.lemmas.Option.{slice_get_within}
 use Rattle.std.proofs.Math.ListN.{length-set}
 use Rattle.xc_word.specs.declared.memory.Cell.{Cell}
 use Rattle.xc_meaning_world.specs.World.{Segs, World, Touch, Reach, New, Free, Request, On, Print, Begin, Stop, Tick, Reply, Got, Dead, put, seg_of, op, put_back, with_out, serve}
-use Rattle.xc_meaning_world.specs.Runs.{part_of, Allows}
+use Rattle.xc_meaning_world.specs.Runs.{part_of, Allows, NewInTouch, NewIn}
 use Rattle.xc_meaning_world.proofs.Puts.{by_same, put_at, get_set_other}
 use Rattle.xc_isa.specs.declared.code.Code.{Code}
 use Rattle.xc_isa.specs.Effects.{Regs, Effect, Goes, Asks, Faults, Quits, effect}
 use Rattle.xc_isa.specs.Machine as machine
 use Rattle.xc_isa.specs.Machine.{Slot, Empty, Live, After, At, Trap, Waits, Spent, last_of_touch, last_after, with_slot, numbered, served, free_slot, starts, takes}
 use Rattle.xc_isa_streams.specs.Class.{Class, Source, Private, Shared, in_place}
-use Rattle.xc_isa_streams.specs.Parts.{Ask, Of, Side, Act, act, AllowsIn, up, Serves, MakesBy, Makes, SideMakes, SideMade, Known, FairTouch, Fair, begun, begun_in, threads_in, InTurn}
+use Rattle.xc_isa_streams.specs.Parts.{Ask, Of, Side, Act, act, AllowsIn, request_of, IsAbove, up, Serves, MakesBy, Makes, SideMakes, SideMade, Known, FairTouch, Fair, begun, begun_in, threads_in, InTurn}
 use Rattle.xc_isa_streams.specs.Local.{Bad, Own, own_of, asked, hid, asks, does, local, replies_of, local_from}
 use Rattle.xc_isa_streams.specs.Promises.{globals_of, first_parts, CanStart, Shows, Shown, AlwaysOwn, AlwaysFair, view, parted, own_view, now, upto, Stands, Core, total, Stage, Fallen}
 use Rattle.xc_isa_streams.proofs.Lists.{part_same, part_other, made_more, side_more, begun_more, in_turn_more, serves_more, serves_up}
-use Rattle.xc_isa_streams.proofs.Views.{view_mine, view_not, view_none, view_put, view_skip, given, given_old, given_view, given_above, given_below, given_by, by_old, by_view, bare, touch_grows, last_grows, by_above, by_below, some_fst, some_snd, Mine, allows_parted, allows_others, touch_high, allows_high}
+use Rattle.xc_isa_streams.proofs.Views.{view_mine, view_not, view_none, view_put, view_skip, given, given_old, given_view, given_above, given_below, given_by, by_old, by_view, touch_grows, last_grows, by_above, by_below, some_fst, some_snd, Mine, allows_parted, allows_others, touch_high, allows_high}
 use Rattle.xc_isa_streams.proofs.Seats.{free_is, seats_put, seats_new}
 use Rattle.xc_isa_streams.proofs.Standing.{numbers_from, fresh_from, nums_for, fresh_for, privately_is, stands_on, stands_hid, stands_more, stands_up, shows, shows_fault, shows_with}
 use Rattle.xc_isa_streams.proofs.Cores.{bump, bump_same, bump_other, bump_total, total_more, is_here, not_here, core_set, core_new}
 
-up_is : (k : Ask) (n : ℕ) → up k n (suc n) ≡ last_after (bare k) n
-up_is (Of (On (Reach a))) n = refl
-up_is (Of (On (New c))) n = refl
-up_is (Of (On (Free g))) n = refl
-up_is (Of (Print bytes)) n = refl
-up_is (Of (Begin at arg)) n = refl
-up_is (Of Stop) n = refl
-up_is (Of Tick) n = refl
-up_is (Side (Reach a)) n = refl
-up_is (Side (New c)) n = refl
-up_is (Side (Free g)) n = refl
+up_low : (k : Ask) (n : ℕ) → up k n (suc n) ≤ last_after (request_of k) n
+up_low (Of (On (Reach a))) n = omega arith
+up_low (Of (On (New zero))) n = omega arith
+up_low (Of (On (New (suc c)))) n = omega arith
+up_low (Of (On (Free g))) n = omega arith
+up_low (Of (Print bytes)) n = omega arith
+up_low (Of (Begin at arg)) n = omega arith
+up_low (Of Stop) n = omega arith
+up_low (Of Tick) n = omega arith
+up_low (Side (Reach a)) n = omega arith
+up_low (Side (New zero)) n = omega arith
+up_low (Side (New (suc c))) n = omega arith
+up_low (Side (Free g)) n = omega arith
+
+-- the next number is one for a new segment, where the numbers are not spent
+touch_next : (x : Touch) (n : ℕ) → last_of_touch x n < 2 ^ 32 - 1 → NewInTouch (IsAbove n) x (suc n)
+touch_next (Reach a) n lt = tt
+touch_next (New zero) n lt = tt
+touch_next (New (suc c)) n lt = (omega arith, omega (arith, lt))
+touch_next (Free g) n lt = tt
+
+next_in : (k : Ask) (n : ℕ) → last_after (request_of k) n < 2 ^ 32 - 1 → NewIn (IsAbove n) (request_of k) (suc n)
+next_in (Of (On x)) n lt = touch_next x n lt
+next_in (Of (Print bytes)) n lt = tt
+next_in (Of (Begin at arg)) n lt = tt
+next_in (Of Stop) n lt = tt
+next_in (Of Tick) n lt = tt
+next_in (Side x) n lt = touch_next x n lt
+
+-- what traps makes no segment
+touch_dead : (x : Touch) (num n : ℕ) (w w' : World) → serve (On x) num w ≡ Some (Dead, w') → NewInTouch (IsAbove n) x num
+touch_dead (Reach a) num n w w' e = tt
+touch_dead (New zero) num n w w' e = tt
+touch_dead (New (suc c)) num n w w' e = let bad : Got (num * 2 ^ 32) ≡ Dead = some_fst e in cc
+touch_dead (Free g) num n w w' e = tt
+
+dead_in : (k : Ask) (num n : ℕ) (w w' : World) → Allows (request_of k) Dead num w w' → NewIn (IsAbove n) (request_of k) num
+dead_in (Of (On x)) num n w w' e = touch_dead x num n w w' e
+dead_in (Of (Print bytes)) num n w w' e = tt
+dead_in (Of (Begin at arg)) num n w w' e = tt
+dead_in (Of Stop) num n w w' e = tt
+dead_in (Of Tick) num n w w' e = tt
+dead_in (Side x) num n w w' e = touch_dead x num n w w' e
 
 begun_dead : (k : Ask) → begun k Dead ≡ []
 begun_dead (Of (On x)) = refl
@@ -171,7 +204,7 @@ module _ (of : ℕ → Class) (code : Code) (always : AlwaysOwn of code) (fair :
         (number, refl, λ c. ap (put g.owner (suc last) c) number ∙ put_at g.owner (suc last) c)
     new_last (Free h) v w' y e m = absurd m
 
-    makes_last : (k : Ask) (v : ℕ) (w' : World) (y : ℕ) → Allows (bare k) (Got v) (suc last) w w' → Makes k (Got v) y → (given_by k g.owner (suc last) y ≡ 0) × (y ≤ last_after (bare k) last)
+    makes_last : (k : Ask) (v : ℕ) (w' : World) (y : ℕ) → Allows (request_of k) (Got v) (suc last) w w' → Makes k (Got v) y → (given_by k g.owner (suc last) y ≡ 0) × (y ≤ last_after (request_of k) last)
     makes_last (Of (On x)) v w' y e m = let is = new_last x v w' y e m in (g.above y (omega (arith, is.0)), omega (arith, is.0, is.1))
     makes_last (Of (Print bytes)) v w' y e m = absurd m
     makes_last (Of (Begin at arg)) v w' y e m = absurd m
@@ -179,18 +212,18 @@ module _ (of : ℕ → Class) (code : Code) (always : AlwaysOwn of code) (fair :
     makes_last (Of Tick) v w' y e m = absurd m
     makes_last (Side x) v w' y e m = absurd m
 
-    side_last : (k : Ask) (v : ℕ) (w' : World) (y : ℕ) → Allows (bare k) (Got v) (suc last) w w' → SideMakes k (Got v) y → (given_by k g.owner (suc last) y ≡ 1) × (y ≤ last_after (bare k) last)
+    side_last : (k : Ask) (v : ℕ) (w' : World) (y : ℕ) → Allows (request_of k) (Got v) (suc last) w w' → SideMakes k (Got v) y → (given_by k g.owner (suc last) y ≡ 1) × (y ≤ last_after (request_of k) last)
     side_last (Of q) v w' y e m = absurd m
     side_last (Side x) v w' y e m = let is = new_last x v w' y e m in (is.2 1, omega (arith, is.0, is.1))
 
-    known_old : (k : Ask) (y c : ℕ) → (g.owner y ≡ c) × (y ≤ last) → (given_by k g.owner (suc last) y ≡ c) × (y ≤ last_after (bare k) last)
-    known_old k y c h = (by_old k g.owner last y (λ z. omega (arith, z, h.1)) ∙ h.0, omega (arith, h.1, last_grows (bare k) last))
+    known_old : (k : Ask) (y c : ℕ) → (g.owner y ≡ c) × (y ≤ last) → (given_by k g.owner (suc last) y ≡ c) × (y ≤ last_after (request_of k) last)
+    known_old k y c h = (by_old k g.owner last y (λ z. omega (arith, z, h.1)) ∙ h.0, omega (arith, h.1, last_grows (request_of k) last))
 
-    known_more : (k : Ask) (v : ℕ) (w' : World) → Allows (bare k) (Got v) (suc last) w w' → (y : ℕ) → Known globals (g.l ++ (i, act k (Got v)) ∷ []) y → (given_by k g.owner (suc last) y ≡ 0) × (y ≤ last_after (bare k) last)
+    known_more : (k : Ask) (v : ℕ) (w' : World) → Allows (request_of k) (Got v) (suc last) w w' → (y : ℕ) → Known globals (g.l ++ (i, act k (Got v)) ∷ []) y → (given_by k g.owner (suc last) y ≡ 0) × (y ≤ last_after (request_of k) last)
     known_more k v w' e y (inl le) = known_old k y 0 (g.known y (inl le))
     known_more k v w' e y (inr h) = ⊎_elim (λ old. known_old k y 0 (g.known y (inr old))) (λ new. makes_last k v w' y e new) (made_more g.l i k (Got v) y h)
 
-    sides_more : (k : Ask) (v : ℕ) (w' : World) → Allows (bare k) (Got v) (suc last) w w' → (y : ℕ) → SideMade (g.l ++ (i, act k (Got v)) ∷ []) y → (given_by k g.owner (suc last) y ≡ 1) × (y ≤ last_after (bare k) last)
+    sides_more : (k : Ask) (v : ℕ) (w' : World) → Allows (request_of k) (Got v) (suc last) w w' → (y : ℕ) → SideMade (g.l ++ (i, act k (Got v)) ∷ []) y → (given_by k g.owner (suc last) y ≡ 1) × (y ≤ last_after (request_of k) last)
     sides_more k v w' e y h = ⊎_elim (λ old. known_old k y 1 (g.sides y old)) (λ new. side_last k v w' y e new) (side_more g.l i k (Got v) y h)
 
     -- the parts before the step, with the new number's owner
@@ -199,42 +232,43 @@ module _ (of : ℕ → Class) (code : Code) (always : AlwaysOwn of code) (fair :
         ap (λ m. record { source = record { segs = m; out = w.out }; side = view 1 (given_by k g.owner (suc last)) w.segs }) (by_view k 0 g.owner w.segs last next_free)
         ∙ ap (λ m. record { source = record { segs = view 0 g.owner w.segs; out = w.out }; side = m }) (by_view k 1 g.owner w.segs last next_free)
 
-    serves_next : (k : Ask) (a : Reply) (w' : World) → Mine (given_by k g.owner (suc last)) k (suc last) → Allows (bare k) a (suc last) w w' → Serves (first_parts code) globals (g.l ++ (i, act k a) ∷ []) (parted (given_by k g.owner (suc last)) w') (last_after (bare k) last)
-    serves_next k a w' mine e =
+    serves_next : (k : Ask) (a : Reply) (w' : World) → NewIn (IsAbove last) (request_of k) (suc last) → Mine (given_by k g.owner (suc last)) k (suc last) → Allows (request_of k) a (suc last) w w' → Serves (first_parts code) globals (g.l ++ (i, act k a) ∷ []) (parted (given_by k g.owner (suc last)) w') (last_after (request_of k) last)
+    serves_next k a w' new mine e =
         let owner' = given_by k g.owner (suc last) in
-        subst (Serves (first_parts code) globals (g.l ++ (i, act k a) ∷ []) (parted owner' w')) (up_is k last)
-        (serves_more (first_parts code) (parted g.owner w) (parted owner' w') globals last (suc last) i k a g.l g.serves (omega arith) (subst (λ p. AllowsIn k a (suc last) p (parted owner' w')) (same_parts k) (allows_parted k (suc last) owner' w a w' mine e)))
+        serves_up (first_parts code) (parted owner' w') globals (up k last (suc last)) (last_after (request_of k) last) (g.l ++ (i, act k a) ∷ [])
+        (serves_more (first_parts code) (parted g.owner w) (parted owner' w') globals last (suc last) i k a g.l g.serves new (subst (λ p. AllowsIn k a (suc last) p (parted owner' w')) (same_parts k) (allows_parted k (suc last) owner' w a w' mine e)))
+        (up_low k last)
 
-    own_kept : (k : Ask) (a : Reply) (w' : World) (b : ℕ) → Mine (given_by k g.owner (suc last)) k (suc last) → Allows (bare k) a (suc last) w w' → own_view b (given_by k g.owner (suc last)) w'.segs ≡ own_view b g.owner w.segs
+    own_kept : (k : Ask) (a : Reply) (w' : World) (b : ℕ) → Mine (given_by k g.owner (suc last)) k (suc last) → Allows (request_of k) a (suc last) w w' → own_view b (given_by k g.owner (suc last)) w'.segs ≡ own_view b g.owner w.segs
     own_kept k a w' b mine e = allows_others k (suc last) b (given_by k g.owner (suc last)) w a w' mine e ∙ by_view k (suc (suc b)) g.owner w.segs last next_free
 
     -- the thread after an action
-    stands_next : (k : Ask) (pc' : ℕ) (rf : ℕ → Regs) (v : ℕ) (w' : World) → Asking k pc' rf → Mine (given_by k g.owner (suc last)) k (suc last) → Allows (bare k) (Got v) (suc last) w w' → (at arg m : ℕ) → Stands of code at arg m (Live pc r) mine_now last so_far → Stands of code at arg (suc m) (Live pc' (rf v)) (own_view i (given_by k g.owner (suc last)) w'.segs) (last_after (bare k) last) (part_of i (g.l ++ (i, act k (Got v)) ∷ []))
+    stands_next : (k : Ask) (pc' : ℕ) (rf : ℕ → Regs) (v : ℕ) (w' : World) → Asking k pc' rf → Mine (given_by k g.owner (suc last)) k (suc last) → Allows (request_of k) (Got v) (suc last) w w' → (at arg m : ℕ) → Stands of code at arg m (Live pc r) mine_now last so_far → Stands of code at arg (suc m) (Live pc' (rf v)) (own_view i (given_by k g.owner (suc last)) w'.segs) (last_after (request_of k) last) (part_of i (g.l ++ (i, act k (Got v)) ∷ []))
     stands_next k pc' rf v w' asking mine e at arg m h =
-        subst (λ t. Stands of code at arg (suc m) (Live pc' (rf v)) (own_view i (given_by k g.owner (suc last)) w'.segs) (last_after (bare k) last) t) (sym (part_same i (act k (Got v)) g.l))
-        (subst (λ p. Stands of code at arg (suc m) (Live pc' (rf v)) p (last_after (bare k) last) (so_far ++ act k (Got v) ∷ [])) (sym (own_kept k (Got v) w' i mine e))
-        (stands_up of code at arg (suc m) (Live pc' (rf v)) mine_now last (last_after (bare k) last) (so_far ++ act k (Got v) ∷ []) (last_grows (bare k) last)
+        subst (λ t. Stands of code at arg (suc m) (Live pc' (rf v)) (own_view i (given_by k g.owner (suc last)) w'.segs) (last_after (request_of k) last) t) (sym (part_same i (act k (Got v)) g.l))
+        (subst (λ p. Stands of code at arg (suc m) (Live pc' (rf v)) p (last_after (request_of k) last) (so_far ++ act k (Got v) ∷ [])) (sym (own_kept k (Got v) w' i mine e))
+        (stands_up of code at arg (suc m) (Live pc' (rf v)) mine_now last (last_after (request_of k) last) (so_far ++ act k (Got v) ∷ []) (last_grows (request_of k) last)
         (stands_more of code at arg m pc r mine_now last so_far h (Live pc' (rf v)) k (Got v) (λ n f rs. asking n _ (Got v ∷ rs) so_far))))
 
     -- an action that begins no thread
-    loud : (k : Ask) (pc' : ℕ) (rf : ℕ → Regs) (v : ℕ) (w' : World) → Asking k pc' rf → begun k (Got v) ≡ [] → Allows (bare k) (Got v) (suc last) w w' → Stage of code (slice_set slots s (Live pc' (rf v))) w' (last_after (bare k) last) (suc made)
-    loud k pc' rf v w' asking quiet e =
+    loud : (k : Ask) (pc' : ℕ) (rf : ℕ → Regs) (v : ℕ) (w' : World) → Asking k pc' rf → begun k (Got v) ≡ [] → NewIn (IsAbove last) (request_of k) (suc last) → Allows (request_of k) (Got v) (suc last) w w' → Stage of code (slice_set slots s (Live pc' (rf v))) w' (last_after (request_of k) last) (suc made)
+    loud k pc' rf v w' asking quiet new e =
         let mine = mine_for k pc' rf asking in
-        changed (Live pc' (rf v)) w' (last_after (bare k) last) (given_by k g.owner (suc last)) (g.l ++ (i, act k (Got v)) ∷ [])
+        changed (Live pc' (rf v)) w' (last_after (request_of k) last) (given_by k g.owner (suc last)) (g.l ++ (i, act k (Got v)) ∷ [])
         (same_threads g.l i k (Got v) quiet)
-        (last_grows (bare k) last)
+        (last_grows (request_of k) last)
         (stands_next k pc' rf v w' asking mine e)
         (λ a ne. own_kept k (Got v) w' a mine e)
         (λ a ne. part_other i a (act k (Got v)) g.l ne)
         (in_turn_more g.l 1 i k (Got v) g.in_turn lower)
-        (serves_next k (Got v) w' mine e)
+        (serves_next k (Got v) w' new mine e)
         (known_more k v w' e)
         (sides_more k v w' e)
         (λ y. by_below k g.owner last (length g.acts) y g.owners)
         (λ y lt. by_above k g.owner last y g.above lt)
         (allows_high k last w v w' g.high e)
 
-    fall : (k : Ask) (w' : World) → Mine (given_by k g.owner (suc last)) k (suc last) → Allows (bare k) Dead (suc last) w w' → ((at arg : ℕ) → slice_get (threads_in g.l) i ≡ Some (at, arg) → (m : ℕ) × (slice_get g.steps i ≡ Some m) × Shows of code at arg (suc m) (so_far ++ act k Dead ∷ [])) → Fallen of code (suc made)
+    fall : (k : Ask) (w' : World) → Mine (given_by k g.owner (suc last)) k (suc last) → Allows (request_of k) Dead (suc last) w w' → ((at arg : ℕ) → slice_get (threads_in g.l) i ≡ Some (at, arg) → (m : ℕ) × (slice_get g.steps i ≡ Some m) × Shows of code at arg (suc m) (so_far ++ act k Dead ∷ [])) → Fallen of code (suc made)
     fall k w' mine e next =
         let l' = g.l ++ (i, act k Dead) ∷ [] in
         let same = same_threads g.l i k Dead (begun_dead k) in
@@ -242,7 +276,7 @@ module _ (of : ℕ → Class) (code : Code) (always : AlwaysOwn of code) (fair :
           l = l';
           steps = bump g.steps i;
           parts = parted (given_by k g.owner (suc last)) w';
-          last = last_after (bare k) last;
+          last = last_after (request_of k) last;
           shown = record {
             in_turn = in_turn_more g.l 1 i k Dead g.in_turn lower;
             each = λ a at arg h'.
@@ -258,7 +292,7 @@ module _ (of : ℕ → Class) (code : Code) (always : AlwaysOwn of code) (fair :
                 let h : slice_get (threads_in g.l) a ≡ None = ap (λ u. slice_get u a) (sym same) ∙ h' in
                 part_other i a (act k Dead) g.l (not_here of code (threads_in g.l) g.acts g.steps (λ a. own_view a g.owner w.segs) last g.l g.core i pc r here a h) ∙ shown.none a h;
           };
-          serves = serves_next k Dead w' mine e;
+          serves = serves_next k Dead w' (dead_in k (suc last) last w w' e) mine e;
           trapped = (g.l, i, k, refl);
           all_steps = bumped;
         }
@@ -275,7 +309,7 @@ module _ (of : ℕ → Class) (code : Code) (always : AlwaysOwn of code) (fair :
         let acts1 = slice_set g.acts i x in
         let seats1 = seats_put slots g.names g.acts g.seats s pc r x at_slot in
         let own : ℕ → Segs = λ a. own_view a g.owner w.segs in
-        let core1 : Core of code acts1 (bump g.steps i) own last (threads_in g.l) l' = core_set of code (threads_in g.l) g.acts g.steps own last g.l g.core i pc r here own last l' x (omega arith) (λ a ne. refl) (λ a ne. part_other i a (act k (Got 1)) g.l ne) (stands_next k pc' rf 1 w asking tt refl) in
+        let core1 : Core of code acts1 (bump g.steps i) own last (threads_in g.l) l' = core_set of code (threads_in g.l) g.acts g.steps own last g.l g.core i pc r here own last l' x (omega arith) (λ a ne. refl) (λ a ne. part_other i a (act k (Got 1)) g.l ne) (stands_next k pc' rf 1 w asking tt (refl, omega arith)) in
         let nothing : own (length acts1) ≡ (λ g. []) = view_none (suc (suc (length acts1))) g.owner w.segs (λ y e. omega (arith, g.owners y, e, length-set g.acts i x)) in
         record {
           l = l';
@@ -286,9 +320,9 @@ module _ (of : ℕ → Class) (code : Code) (always : AlwaysOwn of code) (fair :
           seats = seats_new (slice_set slots s x) g.names acts1 seats1 f at (put (λ x. 0) 1 arg) free';
           core = subst (λ u. Core of code (acts1 ++ machine.begun at arg ∷ []) (bump g.steps i ++ 0 ∷ []) own last u l') (sym grown) (core_new of code (threads_in g.l) acts1 (bump g.steps i) own last l' at arg core1 g.from (inr (pc, r, pc', rf, eff)) nothing);
           in_turn = in_turn_more g.l 1 i k (Got 1) g.in_turn lower;
-          serves = serves_next k (Got 1) w tt refl;
-          known = known_more k 1 w refl;
-          sides = sides_more k 1 w refl;
+          serves = serves_next k (Got 1) w tt tt (refl, omega arith);
+          known = known_more k 1 w (refl, omega arith);
+          sides = sides_more k 1 w (refl, omega arith);
           owners = λ y. omega (arith, g.owners y, length-set g.acts i x, length-append acts1 (machine.begun at arg ∷ []));
           above = g.above;
           high = g.high;
@@ -298,24 +332,24 @@ module _ (of : ℕ → Class) (code : Code) (always : AlwaysOwn of code) (fair :
 
     -- ---- what the machine makes of it
 
-    numbered_inv : (n : ℕ) (x : After) → Reached (suc made) x → Reached (suc made) (numbered n x)
-    numbered_inv n x h = at (nat_lt n (2 ^ 32 - 1))
+    numbered_inv : (n : ℕ) (x : After) → (n < 2 ^ 32 - 1 → Reached (suc made) x) → Reached (suc made) (numbered n x)
+    numbered_inv n x h = at (nat_lt n (2 ^ 32 - 1)) refl
       where
-        at : (b : Bool) → Reached (suc made) (cond b x Spent)
-        at true = h
-        at false = tt
+        at : (b : Bool) → nat_lt n (2 ^ 32 - 1) ≡ b → Reached (suc made) (cond b x Spent)
+        at true e = h (ltb-true n (2 ^ 32 - 1) e)
+        at false e = tt
 
-    served_inv : (k : Ask) (pc' : ℕ) (rf : ℕ → Regs) → Asking k pc' rf → ((v : ℕ) → begun k (Got v) ≡ []) → (o : Option (Reply × World)) → ((a : Reply) (w' : World) → o ≡ Some (a, w') → Allows (bare k) a (suc last) w w') → Reached (suc made) (served (bare k) o pc' rf s slots last)
+    served_inv : (k : Ask) (pc' : ℕ) (rf : ℕ → Regs) → Asking k pc' rf → ((v : ℕ) → begun k (Got v) ≡ []) → (o : Option (Reply × World)) → ((a : Reply) (w' : World) → o ≡ Some (a, w') → Allows (request_of k) a (suc last) w w') → Reached (suc made) (served (request_of k) o pc' rf s slots last)
     served_inv k pc' rf asking quiet None e = tt
     served_inv k pc' rf asking quiet (Some (Dead, w')) e = fall k w' (mine_for k pc' rf asking) (e Dead w' refl) (dead_next k pc' rf asking)
-    served_inv k pc' rf asking quiet (Some (Got v, w')) e = numbered_inv (last_after (bare k) last) (with_slot slots s (Live pc' (rf v)) w' (last_after (bare k) last)) (loud k pc' rf v w' asking (quiet v) (e (Got v) w' refl))
+    served_inv k pc' rf asking quiet (Some (Got v, w')) e = numbered_inv (last_after (request_of k) last) (with_slot slots s (Live pc' (rf v)) w' (last_after (request_of k) last)) (λ lt. loud k pc' rf v w' asking (quiet v) (next_in k last lt) (e (Got v) w' refl))
 
     starts_inv : (at arg pc' : ℕ) (rf : ℕ → Regs) → Asking (Of (Begin at arg)) pc' rf → effect code.formats (slice_get code.instrs pc) pc r ≡ Asks (Begin at arg) pc' rf → (o : Option ℕ) → free_slot slots ≡ o → Reached (suc made) (starts o at arg pc' rf s slots w last)
-    starts_inv at arg pc' rf asking eff None e = loud (Of (Begin at arg)) pc' rf 0 w asking refl refl
+    starts_inv at arg pc' rf asking eff None e = loud (Of (Begin at arg)) pc' rf 0 w asking refl tt (refl, omega arith)
     starts_inv at arg pc' rf asking eff (Some f) e = more at arg pc' rf f asking eff (free_is slots f e)
 
     -- a request that is an action
-    act_inv : (k : Ask) (pc' : ℕ) (rf : ℕ → Regs) → Asking k pc' rf → effect code.formats (slice_get code.instrs pc) pc r ≡ Asks (bare k) pc' rf → Reached (suc made) (machine.asks (bare k) pc' rf s slots w last)
+    act_inv : (k : Ask) (pc' : ℕ) (rf : ℕ → Regs) → Asking k pc' rf → effect code.formats (slice_get code.instrs pc) pc r ≡ Asks (request_of k) pc' rf → Reached (suc made) (machine.asks (request_of k) pc' rf s slots w last)
     act_inv (Of (On x)) pc' rf asking eff = served_inv (Of (On x)) pc' rf asking (λ v. refl) (serve (On x) (suc last) w) (λ a w' e. e)
     act_inv (Of (Print bytes)) pc' rf asking eff = served_inv (Of (Print bytes)) pc' rf asking (λ v. refl) (serve (Print bytes) (suc last) w) (λ a w' e. e)
     act_inv (Of (Begin at arg)) pc' rf asking eff = starts_inv at arg pc' rf asking eff (free_slot slots) refl
@@ -369,7 +403,7 @@ module _ (of : ℕ → Class) (code : Code) (always : AlwaysOwn of code) (fair :
           let source : view 0 owner' m' ≡ view 0 g.owner w.segs = kept 0 ys (λ z. omega (arith, z)) in
           let side : view 1 owner' m' ≡ view 1 g.owner w.segs = kept 1 ys (λ z. omega (arith, z)) in
           numbered_inv (last_of_touch x last) (with_slot slots s (Live pc' (rf v)) (record { segs = m'; out = w.out }) (last_of_touch x last))
-          (changed (Live pc' (rf v)) (record { segs = m'; out = w.out }) (last_of_touch x last) owner' g.l refl (touch_grows x last)
+          (λ lt. changed (Live pc' (rf v)) (record { segs = m'; out = w.out }) (last_of_touch x last) owner' g.l refl (touch_grows x last)
           (λ at arg m h. stands_hid of code at arg m pc r mine_now last so_far h (Live pc' (rf v)) x (own_view i owner' m')
           (λ n f rs. private_step x pc' rf ec ef (w.segs num) sees (Some (Got v, ys)) e n f rs ∙ ap (λ u. local of code n pc' (rf v) (own_of f u) rs so_far) own_now))
           (λ a ne. kept (suc (suc a)) ys (λ z. ne (let q : i ≡ a = omega (arith, z) in sym q)))
