@@ -2,10 +2,10 @@
 use Rattle.std.proofs.Common.{◌≡◌, ◌⊎◌, ℕ, zero, suc, ◌+◌, ◌<◌, ◌≤◌, List, [], ◌∷◌, ◌++◌, length, Some, None, Bool, true, false, cond, refl, sym, ap, ◌∙◌, subst, arith, inl, inr, ⊎_elim, append-nil, append_assoc, length-append}
 use Rattle.std.specs.Prelude.{slice_get, ◌==◌}
 use Rattle.std.proofs.lemmas.Bool.{eqb-true, eqb-false}
-use Rattle.xc_meaning_world.specs.World.{Touch, Reach, New, Free, On, Print, Begin, Stop, Tick, Reply}
+use Rattle.xc_meaning_world.specs.World.{Touch, Reach, New, Free, On, Print, Begin, Stop, Tick, Reply, Got}
 use Rattle.xc_meaning_world.specs.Runs.{part_of, NewIn}
 use Rattle.xc_meaning_world.proofs.Numbers.{new_in}
-use Rattle.xc_isa_streams.specs.Parts.{Ask, Of, Side, Act, act, Parts, AllowsIn, request_of, IsAbove, up_touch, up, Serves, Makes, SideMakes, Made, SideMade, begun, begun_in, InTurn}
+use Rattle.xc_isa_streams.specs.Parts.{Ask, Of, Side, Act, act, Parts, AllowsIn, request_of, IsAbove, up_touch, up, Serves, Alive, Makes, SideMakes, Made, SideMade, begun, begun_in, InTurn}
 
 pub get_left : {X : Type 0} (xs ys : List X) (i : ℕ) (x : X) → slice_get xs i ≡ Some x → slice_get (xs ++ ys) i ≡ Some x
 get_left [] ys i x h = cc
@@ -83,6 +83,10 @@ side_more ((j, b) ∷ l) i k a g (inr h) = ⊎_elim (λ x. inl (inr x)) (λ x. i
 pub begun_more : (l : List (ℕ × Act)) (i : ℕ) (k : Ask) (a : Reply) → begun_in (l ++ (i, act k a) ∷ []) ≡ begun_in l ++ begun k a
 begun_more [] i k a = append-nil (begun k a)
 begun_more ((j, b) ∷ l) i k a = ap (λ u. begun b.ask b.reply ++ u) (begun_more l i k a) ∙ sym (append_assoc (begun b.ask b.reply) (begun_in l) (begun k a))
+
+pub alive_more : (l : List (ℕ × Act)) (i : ℕ) (k : Ask) (v : ℕ) → Alive l → Alive (l ++ (i, act k (Got v)) ∷ [])
+alive_more [] i k v h = (tt, tt)
+alive_more ((j, b) ∷ l) i k v h = (h.0, alive_more l i k v h.1)
 
 pub in_turn_more : (l : List (ℕ × Act)) (n i : ℕ) (k : Ask) (a : Reply) → InTurn n l → i < n + length (begun_in l) → InTurn n (l ++ (i, act k a) ∷ [])
 in_turn_more [] n i k a h lt = (omega arith, tt)

@@ -67,9 +67,19 @@ sources ((i, a) ∷ l) = source_and i a.ask a.reply (sources l)
 abbrev pub SourcesApply : Type 0
 SourcesApply = (globals : ℕ) (p p' : Parts) (l : List (ℕ × Act)) (last : ℕ) → ((g : ℕ) → globals < g → p.source.segs g ≡ []) → Serves p globals l p' last → Applies globals p.source (sources l) p'.source
 
--- its last action is a trap
+-- the reply is no trap
+abbrev pub IsGot : Reply → Type 0
+IsGot (Got v) = Unit {0}
+IsGot Dead = ⊥
+
+-- no action is a trap
+abbrev pub Alive : List (ℕ × Act) → Type 0
+Alive [] = Unit {0}
+Alive ((i, a) ∷ l) = IsGot a.reply × Alive l
+
+-- its last action is a trap, and no other
 abbrev pub HasTrapped : List (ℕ × Act) → Type 0
-HasTrapped l = (front : List (ℕ × Act)) × (s : ℕ) × (k : Ask) × (l ≡ front ++ (s, act k Dead) ∷ [])
+HasTrapped l = (front : List (ℕ × Act)) × (s : ℕ) × (k : Ask) × (l ≡ front ++ (s, act k Dead) ∷ []) × Alive front
 
 -- ---- segments
 
