@@ -1,6 +1,6 @@
 -- The command line: `run [OPTIONS] FILE`, `exec [OPTIONS] FILE` and `compile FILE`. The first word is the command; the others are
 -- the arguments of a simple command of `clap`, whose own definitions say which words it takes and what they give.
-use Rattle.std.specs.Prelude.{ℕ, ◌^◌, ◌&&◌, Bool, true, false, codes, List, [], ◌∷◌, Option, Some, None, nat_le, if◌then◌else◌}
+use Rattle.std.specs.Prelude.{ℕ, ◌^◌, ◌&&◌, Bool, true, false, codes, List, [], ◌∷◌, ◌++◌, map, Option, Some, None, nat_le, if◌then◌else◌}
 use Rattle.std.specs.Option.{option_map, option_and_then, option_zip}
 use Rattle.std.specs.Str.{bytes_eq}
 use Rattle.clap.specs.Words.{App, Kinds, Row, Rule, Text, fault_of, first_of, matches_of, new_rule}
@@ -31,8 +31,12 @@ file = record (new_rule (codes "file")) { required = true }
 abbrev pub line_of : List Rule → App
 line_of rules = record { top = record (new_shape (codes "xmtc")) { no_binary_name = true; disable_help_flag = true; rules = rules }; subs = [] }
 
+-- the options of a run that have a value
+abbrev pub option_names : List Text
+option_names = codes "streams" ∷ codes "seed" ∷ codes "schedule" ∷ codes "steps" ∷ codes "words" ∷ codes "out" ∷ []
+
 unfoldable pub run_line : App
-run_line = line_of (option (codes "streams") ∷ option (codes "seed") ∷ option (codes "schedule") ∷ option (codes "steps") ∷ option (codes "words") ∷ option (codes "out") ∷ flag (codes "record") ∷ file ∷ [])
+run_line = line_of (map option option_names ++ flag (codes "record") ∷ file ∷ [])
 
 unfoldable pub compile_line : App
 compile_line = line_of (file ∷ [])
@@ -72,6 +76,9 @@ choice_of (Some seed) None = option_map (λ n. Seed n) (number_of (2 ^ 64) seed)
 choice_of None (Some schedule) = option_map (λ f. Schedule f) (name_of schedule)
 choice_of (Some seed) (Some schedule) = None
 
+abbrev pub choice_in : List Row → Option Choice
+choice_in rows = choice_of (value_in (codes "seed") rows) (value_in (codes "schedule") rows)
+
 -- a flag that is given has the value `true`, and else `false`
 abbrev pub is_given : Option Text → Bool
 is_given None = false
@@ -90,14 +97,22 @@ options_of rows = options_from
     (number_or 10000000 (number_from 0 (2 ^ 31)) (value_in (codes "steps") rows))
     (number_or (2 ^ 20) (number_from 1 (2 ^ 24)) (value_in (codes "words") rows))
     (number_or (2 ^ 20) (number_from 0 (2 ^ 20)) (value_in (codes "out") rows))
-    (choice_of (value_in (codes "seed") rows) (value_in (codes "schedule") rows))
+    (choice_in rows)
     (is_given (value_in (codes "record") rows))
 
 abbrev pub file_of : List Row → Option Text
 file_of rows = option_and_then name_of (value_in (codes "file") rows)
 
+abbrev pub request_in : List Row → Option (Options × Text)
+request_in rows = option_zip (options_of rows) (file_of rows)
+
+-- the options and the file of a run
 abbrev pub request_of : List Text → Option (Options × Text)
-request_of ws = option_and_then (λ rows. option_zip (options_of rows) (file_of rows)) (rows_of_words run_line ws)
+request_of ws = option_and_then request_in (rows_of_words run_line ws)
+
+-- the file that is compiled
+abbrev pub source_of : List Text → Option Text
+source_of ws = option_and_then file_of (rows_of_words compile_line ws)
 
 -- the command of the words; none: they are no command
 abbrev pub command_of : List Text → Option Command
@@ -105,5 +120,5 @@ command_of [] = None
 command_of (c ∷ ws) =
     if bytes_eq c (codes "run") then option_map (λ r. Run r.0 r.1) (request_of ws)
     else if bytes_eq c (codes "exec") then option_map (λ r. Exec r.0 r.1) (request_of ws)
-    else if bytes_eq c (codes "compile") then option_map (λ f. Compile f) (option_and_then file_of (rows_of_words compile_line ws))
+    else if bytes_eq c (codes "compile") then option_map (λ f. Compile f) (source_of ws)
     else None

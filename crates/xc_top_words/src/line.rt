@@ -2,7 +2,7 @@
 
 ghost use Rattle.std.specs.Prelude.{◌≡◌, Some, None, [], true, false, codes, map, string_bytes, option_map, IfOk, MatchResult};
 ghost use Rattle.clap.specs.Words.{app_of, found_of, is_simple, is_simple_and_free, rows_of, rule_of};
-ghost use Rattle.xc_top_words.specs.Words.{option as option_rule, flag as flag_rule, file as file_rule, line_of, run_line as run_line_app, compile_line as compile_line_app, rows_of_words, value_in};
+ghost use Rattle.xc_top_words.specs.Words.{option as option_rule, flag as flag_rule, file as file_rule, line_of, option_names, run_line as run_line_app, compile_line as compile_line_app, rows_of_words, value_in};
 
 use crate::words::WordsFault;
 use clap::{Arg, ArgAction, ArgMatches, Command};
@@ -41,17 +41,22 @@ fn bare_line<'a>(alloc: Global) -> Command<'a>
         .disable_help_flag(true)
 }
 
+/// The options of a run that have a value.
+fn options_line<'a>(alloc: Global) -> Result<Command<'a>, AllocError>
+    ensures { IfOk result (λ line. app_of line ≡ line_of (map option_rule option_names)) }
+{
+    let mut line = bare_line(alloc);
+    for name in ["streams", "seed", "schedule", "steps", "words", "out"] {
+        line = line.arg(option(alloc, name))?;
+    }
+    Ok(line)
+}
+
 /// What stands behind `run` and `exec`.
 pub(crate) fn run_line<'a>(alloc: Global) -> Result<Command<'a>, AllocError>
     ensures { IfOk result (λ line. app_of line ≡ run_line_app) }
 {
-    bare_line(alloc)
-        .arg(option(alloc, "streams"))?
-        .arg(option(alloc, "seed"))?
-        .arg(option(alloc, "schedule"))?
-        .arg(option(alloc, "steps"))?
-        .arg(option(alloc, "words"))?
-        .arg(option(alloc, "out"))?
+    options_line(alloc)?
         .arg(flag(alloc, "record"))?
         .arg(file(alloc))
 }

@@ -1,12 +1,12 @@
-//! What values spell.
+//! What the values of arguments spell.
 
-ghost use Rattle.std.specs.Prelude.{◌≡◌, ◌≤◌, Some, None, option_map, MatchResult};
+ghost use Rattle.std.specs.Prelude.{◌≡◌, ◌≤◌, Some, None, MatchResult};
 ghost use Rattle.clap.specs.Words.{found_of, rows_of};
-ghost use Rattle.xc_top_words.specs.Words.{number_from, name_of, number_or as number_or_default, choice_of, is_given as is_flag_given, options_of, file_of};
+ghost use Rattle.xc_top_words.specs.Words.{number_from, name_of, number_or as number_or_default, choice_in, is_given as is_flag_given, options_of, file_of, request_in, value_in};
 
 use crate::command::{Choice, Name, Options};
 use crate::line::value;
-use crate::within::{OutLimit, Steps, Streams, Within, WordLimit};
+use crate::within::Within;
 use crate::words::WordsFault;
 use clap::ArgMatches;
 use std::alloc::Global;
@@ -24,17 +24,19 @@ fn number_within<const LOW: u64, const HIGH: u64>(value: &str) -> Option<Within<
     }
 }
 
-/// The same, or the default where no value is given.
+/// The number of an option, or the default where the option is not given.
 fn number_or<const LOW: u64, const HIGH: u64>(
-    default: Within<LOW, HIGH>,
-    value: Option<&str>,
-) -> Result<Within<LOW, HIGH>, WordsFault>
-    ensures { MatchResult result (λ n. number_or_default default.entry (number_from LOW HIGH) (option_map (λ v. v.now) value.entry) ≡ Some n)
-        (λ e. number_or_default default.entry (number_from LOW HIGH) (option_map (λ v. v.now) value.entry) ≡ None) }
+    matches: &ArgMatches<'_>,
+    option: &str,
+    default: u64,
+) -> Option<Within<LOW, HIGH>>
+    requires low { LOW ≤ default }
+    requires high { default ≤ HIGH }
+    ensures { result ≡ number_or_default default (number_from LOW HIGH) (value_in option.now (rows_of (found_of matches.now))) }
 {
-    match value {
-        Some(value) => number_within(value).ok_or(WordsFault::Usage),
-        None => Ok(default),
+    match value(matches, option) {
+        Some(value) => number_within(value),
+        None => Some(Within::new(default)),
     }
 }
 
@@ -49,47 +51,48 @@ fn name(alloc: Global, value: &str) -> Result<Name, WordsFault>
 }
 
 /// What chooses the streams.
-fn choice(alloc: Global, seed: Option<&str>, schedule: Option<&str>) -> Result<Choice, WordsFault>
-    ensures { MatchResult result (λ c. choice_of (option_map (λ v. v.now) seed.entry) (option_map (λ v. v.now) schedule.entry) ≡ Some c)
-        (λ e. e ≡ WordsFault.Usage → choice_of (option_map (λ v. v.now) seed.entry) (option_map (λ v. v.now) schedule.entry) ≡ None) }
+fn choice(alloc: Global, matches: &ArgMatches<'_>) -> Result<Choice, WordsFault>
+    ensures { MatchResult result (λ c. choice_in (rows_of (found_of matches.now)) ≡ Some c)
+        (λ e. e ≡ WordsFault.Usage → choice_in (rows_of (found_of matches.now)) ≡ None) }
 {
-    match (seed, schedule) {
+    match (value(matches, "seed"), value(matches, "schedule")) {
         (None, None) => Ok(Choice::Turns),
-        (Some(seed), None) => {
-            let seed = number(seed.as_bytes()).ok_or(WordsFault::Usage)?;
-            Ok(Choice::Seed(seed))
-        }
+        (Some(seed), None) => match number(seed.as_bytes()) {
+            Some(seed) => Ok(Choice::Seed(seed)),
+            None => Err(WordsFault::Usage),
+        },
         (None, Some(schedule)) => Ok(Choice::Schedule(name(alloc, schedule)?)),
         (Some(_), Some(_)) => Err(WordsFault::Usage),
     }
 }
 
-/// Whether a flag with this value is given.
-fn is_given(value: Option<&str>) -> bool
-    ensures { result ≡ is_flag_given (option_map (λ v. v.now) value.entry) }
+fn is_given(matches: &ArgMatches<'_>, flag: &str) -> bool
+    ensures { result ≡ is_flag_given (value_in flag.now (rows_of (found_of matches.now))) }
 {
-    match value {
+    match value(matches, flag) {
         Some(value) => value == "true",
         None => false,
     }
 }
 
-pub(crate) fn options(alloc: Global, matches: &ArgMatches<'_>) -> Result<Options, WordsFault>
+fn options(alloc: Global, matches: &ArgMatches<'_>) -> Result<Options, WordsFault>
     ensures { MatchResult result (λ o. options_of (rows_of (found_of matches.now)) ≡ Some o)
         (λ e. e ≡ WordsFault.Usage → options_of (rows_of (found_of matches.now)) ≡ None) }
 {
-    let streams = number_or(Streams::new(8), value(matches, "streams"))?;
-    let steps = number_or(Steps::new(10_000_000), value(matches, "steps"))?;
-    let words = number_or(WordLimit::new(1 << 20), value(matches, "words"))?;
-    let out = number_or(OutLimit::new(1 << 20), value(matches, "out"))?;
-    let choice = choice(alloc, value(matches, "seed"), value(matches, "schedule"))?;
+    let limits = number_or(matches, "steps", 10_000_000)
+        .zip(number_or(matches, "words", 1 << 20))
+        .zip(number_or(matches, "out", 1 << 20));
+    let Some((streams, ((steps, words), out))) = number_or(matches, "streams", 8).zip(limits) else {
+        return Err(WordsFault::Usage);
+    };
+    let choice = choice(alloc, matches)?;
     Ok(Options {
         streams,
         choice,
         steps,
         words,
         out,
-        recorded: is_given(value(matches, "record")),
+        recorded: is_given(matches, "record"),
     })
 }
 
@@ -97,6 +100,20 @@ pub(crate) fn file(alloc: Global, matches: &ArgMatches<'_>) -> Result<Name, Word
     ensures { MatchResult result (λ n. file_of (rows_of (found_of matches.now)) ≡ Some n)
         (λ e. e ≡ WordsFault.Usage → file_of (rows_of (found_of matches.now)) ≡ None) }
 {
-    let value = value(matches, "file").ok_or(WordsFault::Usage)?;
-    name(alloc, value)
+    match value(matches, "file") {
+        Some(value) => name(alloc, value),
+        None => Err(WordsFault::Usage),
+    }
+}
+
+pub(crate) fn options_and_file(
+    alloc: Global,
+    matches: &ArgMatches<'_>,
+) -> Result<(Options, Name), WordsFault>
+    ensures { MatchResult result (λ r. request_in (rows_of (found_of matches.now)) ≡ Some r)
+        (λ e. e ≡ WordsFault.Usage → request_in (rows_of (found_of matches.now)) ≡ None) }
+{
+    let file = file(alloc, matches)?;
+    let options = options(alloc, matches)?;
+    Ok((options, file))
 }

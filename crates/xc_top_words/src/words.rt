@@ -1,11 +1,11 @@
 //! The words of the command line.
 
-ghost use Rattle.std.specs.Prelude.{◌≡◌, Some, None, map, string_bytes, option_and_then, MatchResult};
-ghost use Rattle.xc_top_words.specs.Words.{compile_line as compile_line_app, rows_of_words, file_of, request_of, command_of};
+ghost use Rattle.std.specs.Prelude.{◌≡◌, Some, None, map, string_bytes, option_map, MatchResult};
+ghost use Rattle.xc_top_words.specs.Words.{request_of, source_of, command_of};
 
 use crate::command::{Command, Name, Options};
 use crate::line::{compile_line, parse, run_line};
-use crate::values::{file, options};
+use crate::values::{file, options_and_file};
 use clap::error::ErrorKind;
 use std::alloc::{AllocError, Global};
 use thiserror::Error;
@@ -54,18 +54,40 @@ fn request(alloc: Global, words: &[String]) -> Result<(Options, Name), WordsFaul
         (λ e. e ≡ WordsFault.Usage → request_of (map string_bytes words.now) ≡ None) }
 {
     let matches = parse(run_line(alloc)?, words)?;
-    let options = options(alloc, &matches)?;
-    let file = file(alloc, &matches)?;
-    Ok((options, file))
+    options_and_file(alloc, &matches)
+}
+
+fn run(alloc: Global, words: &[String]) -> Result<Command, WordsFault>
+    ensures { MatchResult result (λ c. option_map (λ r. Command.Run r.0 r.1) (request_of (map string_bytes words.now)) ≡ Some c)
+        (λ e. e ≡ WordsFault.Usage → option_map (λ r. Command.Run r.0 r.1) (request_of (map string_bytes words.now)) ≡ None) }
+{
+    let (options, file) = request(alloc, words)?;
+    Ok(Command::Run { options, file })
+}
+
+fn exec(alloc: Global, words: &[String]) -> Result<Command, WordsFault>
+    ensures { MatchResult result (λ c. option_map (λ r. Command.Exec r.0 r.1) (request_of (map string_bytes words.now)) ≡ Some c)
+        (λ e. e ≡ WordsFault.Usage → option_map (λ r. Command.Exec r.0 r.1) (request_of (map string_bytes words.now)) ≡ None) }
+{
+    let (options, file) = request(alloc, words)?;
+    Ok(Command::Exec { options, file })
 }
 
 /// The file that is compiled.
 fn source(alloc: Global, words: &[String]) -> Result<Name, WordsFault>
-    ensures { MatchResult result (λ n. option_and_then file_of (rows_of_words compile_line_app (map string_bytes words.now)) ≡ Some n)
-        (λ e. e ≡ WordsFault.Usage → option_and_then file_of (rows_of_words compile_line_app (map string_bytes words.now)) ≡ None) }
+    ensures { MatchResult result (λ n. source_of (map string_bytes words.now) ≡ Some n)
+        (λ e. e ≡ WordsFault.Usage → source_of (map string_bytes words.now) ≡ None) }
 {
     let matches = parse(compile_line(alloc)?, words)?;
     file(alloc, &matches)
+}
+
+fn compile(alloc: Global, words: &[String]) -> Result<Command, WordsFault>
+    ensures { MatchResult result (λ c. option_map (λ f. Command.Compile f) (source_of (map string_bytes words.now)) ≡ Some c)
+        (λ e. e ≡ WordsFault.Usage → option_map (λ f. Command.Compile f) (source_of (map string_bytes words.now)) ≡ None) }
+{
+    let file = source(alloc, words)?;
+    Ok(Command::Compile { file })
 }
 
 /// The command that the words after the program's name say.
@@ -76,17 +98,10 @@ pub fn read_command(alloc: Global, words: &[String]) -> Result<Command, WordsFau
     let [command, rest @ ..] = words else {
         return Err(WordsFault::Usage);
     };
-    if command.as_str() == "run" {
-        let (options, file) = request(alloc, rest)?;
-        return Ok(Command::Run { options, file });
+    match command.as_str() {
+        "run" => run(alloc, rest),
+        "exec" => exec(alloc, rest),
+        "compile" => compile(alloc, rest),
+        _ => Err(WordsFault::Usage),
     }
-    if command.as_str() == "exec" {
-        let (options, file) = request(alloc, rest)?;
-        return Ok(Command::Exec { options, file });
-    }
-    if command.as_str() == "compile" {
-        let file = source(alloc, rest)?;
-        return Ok(Command::Compile { file });
-    }
-    Err(WordsFault::Usage)
 }
