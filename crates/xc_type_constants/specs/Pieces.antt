@@ -74,7 +74,6 @@ abbrev pub binary_part : BinOp → Part → Part → Part
 binary_part o p q = record {
   unsigned = both (gives_unsigned (sort_of o)) p.unsigned q.unsigned;
   value = value_by o (both (works_unsigned (sort_of o)) p.unsigned q.unsigned) p.value q.value;
- 
   pure = p.pure && q.pure;
 }
 
@@ -89,7 +88,6 @@ abbrev pub cond_part : Part → Part → Part → Part
 cond_part test p q = record {
   unsigned = both (λ a b. a || b) p.unsigned q.unsigned;
   value = chosen test.value p.value q.value;
- 
   pure = test.pure && (p.pure && q.pure);
 }
 

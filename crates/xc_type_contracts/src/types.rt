@@ -34,12 +34,7 @@ pub fn note(first: &mut Option<Fault>, fault: Fault)
     xc_type_rule::note(first, fault);
 }
 
-pub fn value(
-    alloc: Global,
-    sizes: &[u32],
-    span: Span,
-    part: Found,
-) -> Result<Found, AllocError>
+pub fn value(alloc: Global, sizes: &[u32], span: Span, part: Found) -> Result<Found, AllocError>
     ensures { IfOk result (λ r. r ≡ values.rvalue sizes.now span part) }
 {
     rvalue(alloc, sizes, span, part)

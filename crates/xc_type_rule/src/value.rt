@@ -140,12 +140,7 @@ pub fn note_lost(inner: Span, known: &Known, first: &mut Option<Fault>)
 /// array the pointer to its first element. A struct has no value and stays a place. `span` covers the part, and
 /// `sizes` has the sizes of the structs.
 #[tactic(auto, unfolding(crate::specs::Values::rvalue))]
-pub fn rvalue(
-    alloc: Global,
-    sizes: &[u32],
-    span: Span,
-    found: Found,
-) -> Result<Found, AllocError>
+pub fn rvalue(alloc: Global, sizes: &[u32], span: Span, found: Found) -> Result<Found, AllocError>
     ensures { IfOk result (λ r. r ≡ values.rvalue sizes.now span found) }
 {
     let Found { known, made } = found;
