@@ -1,5 +1,7 @@
 -- The command line: `run [OPTIONS] FILE`, `exec [OPTIONS] FILE` and `compile FILE`. The first word is the command; the others are
--- the arguments of a simple command of `clap`, whose own definitions say which words it takes and what they give.
+-- the arguments of a simple command of `clap`, whose own definitions say which words it takes and what they give. By them an option
+-- may stand before or behind the file, `--` ends the options, and each other word that begins with a minus sign and is more than that
+-- has to be an option; so no value does but behind `=`.
 use Rattle.std.specs.Prelude.{ℕ, ◌^◌, ◌&&◌, Bool, true, false, codes, List, [], ◌∷◌, ◌++◌, map, Option, Some, None, nat_le, if◌then◌else◌}
 use Rattle.std.specs.Option.{option_map, option_and_then, option_zip}
 use Rattle.std.specs.Str.{bytes_eq}
@@ -41,6 +43,7 @@ run_line = line_of (map option option_names ++ flag (codes "record") ∷ file �
 unfoldable pub compile_line : App
 compile_line = line_of (file ∷ [])
 
+-- none where there is a fault
 abbrev pub unless : Kinds → List Row → Option (List Row)
 unless [] rows = Some rows
 unless (fault ∷ faults) rows = None
