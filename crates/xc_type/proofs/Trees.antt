@@ -2,6 +2,7 @@
 use Rattle.std.proofs.Common.{◌≡◌, ℕ, ◌^◌, ◌<◌, List, [], ◌∷◌, length, Bool, true, false, cond, refl, sym, ap, ◌∙◌, subst}
 use Rattle.std.specs.Prelude.{IsTrue, is_some, Option, Some, None}
 use Rattle.std.specs.List.{All, list_all}
+use Rattle.std.specs.Option.{option_zip}
 use Rattle.std.proofs.lemmas.Bool.{ltb-true}
 use Rattle.std.proofs.lemmas.Grind.{common_steps}
 use Rattle.xc_lex.specs.declared.token.Token.{Token}
@@ -87,6 +88,16 @@ tree_valid s main formats structs funcs n typed structs_are funcs_are main_is fe
     (subst (λ fs. IsTrue (tree_ok (struct_tys s.env.structs.members) s.globals fs formats s.env.loops n)) same_funcs
     (subst (λ k. IsTrue (tree_ok (struct_tys s.env.structs.members) s.globals typed.funcs formats s.env.loops k)) same_main
     (typed.valid (few_of (struct_tys s.env.structs.members) typed.funcs formats counted))))
+
+-- the function `main`, the functions and the types of the structs are known
+pub all_known : (s : FileScope) (main : Option ℕ) (formats : List (List ℕ)) → IsTyped s main formats →
+    option_zip main (option_zip s.funcs (struct_types s.env.structs.members)) ≡ None → ⊥
+all_known s main formats typed none =
+    let zipped : option_zip (Some typed.number) (option_zip (Some typed.funcs) (Some (struct_tys s.env.structs.members))) ≡ None =
+    subst (λ m. option_zip m (option_zip (Some typed.funcs) (Some (struct_tys s.env.structs.members))) ≡ None) typed.main_is
+    (subst (λ fs. option_zip main (option_zip fs (Some (struct_tys s.env.structs.members))) ≡ None) typed.funcs_are
+    (subst (λ ss. option_zip main (option_zip s.funcs ss) ≡ None) (structs_known s.env.structs.members typed.members) none)) in
+    cc
 
 -- texts ------------------------------------------------------------------------
 

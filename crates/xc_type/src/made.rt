@@ -107,10 +107,7 @@ pub(crate) fn made(
     let others = (globals, funcs, formats);
     let ((structs, notes), (globals, funcs, formats)) = kept(copied, others)?;
     match main.zip(funcs.zip(structs)) {
-        None => {
-            drop((globals, formats, notes));
-            Err(CheckFault::NoMemory)
-        }
+        None => unreachable!(),
         Some((main, (funcs, structs))) => {
             if !are_few(structs.len(), funcs.as_slice(), formats.len()) {
                 drop((structs, globals, funcs, formats, notes));
