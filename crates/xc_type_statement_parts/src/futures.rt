@@ -61,6 +61,21 @@ fn element(
     index(alloc, env.structs().sizes(), whole, before, base, v, first)
 }
 
+/// A part of a place as a value.
+#[tactic(auto, using(crate::proofs::Parts::part_rules))]
+fn as_value(
+    alloc: Global,
+    env: &Env,
+    at: Span,
+    part: Found,
+    first: &mut Option<Fault>,
+) -> Result<Found, AllocError>
+    ensures { IfOk result (λ r. Judges (spec.as_value at part) env.now env.now first.old first.new r) }
+{
+    note_lost(at, &part.known, first);
+    rvalue(alloc, env.structs().sizes(), at, part)
+}
+
 #[tactic(auto, using(crate::proofs::Parts::part_rules), unfolding(crate::specs::Futures::member))]
 fn member(
     alloc: Global,
@@ -79,8 +94,7 @@ fn member(
     match access {
         Access::Dot => dotted(alloc, env, whole, named_at, number, base, first),
         Access::Arrow => {
-            note_lost(before, &base.known, first);
-            let p = rvalue(alloc, env.structs().sizes(), before, base)?;
+            let p = as_value(alloc, env, before, base, first)?;
             arrowed(alloc, env, whole, named_at, number, p, first)
         }
     }
@@ -234,8 +248,7 @@ fn copy_of(
     let variable = named(alloc, env, at, name, first)?;
     let ty = variable_ty(alloc, &variable.known);
     let fine = may_be_variable(&variable.known);
-    note_lost(at, &variable.known, first);
-    let (v, ty) = both(rvalue(alloc, env.structs().sizes(), at, variable), ty)?;
+    let (v, ty) = both(as_value(alloc, env, at, variable, first), ty)?;
     if !fine {
         note_type(first, at);
     }
