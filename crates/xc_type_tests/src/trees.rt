@@ -3,6 +3,7 @@
 use crate::draw::draw;
 use crate::texts::{accepted, tree_of, with_main};
 use std::alloc::Global;
+use std::process::Abort;
 use std::test::Fail;
 use xc_tree::{Stmt, StmtKind, Tree, Ty};
 
@@ -40,48 +41,54 @@ fn type_in(alloc: Global, source: &str) -> Result<&'static str, Fail> {
     }
 }
 
-/// The rows of C99 6.7.2 paragraph 2, and others.
+/// The rows of C99 6.7.2 paragraph 2, and others: the type that is wanted, and the words.
+const TYPE_WORDS: &str = "signed int
+signed signed
+signed signed int
+unsigned unsigned
+unsigned unsigned int
+signed long
+signed signed long
+signed long int
+signed signed long int
+unsigned unsigned long
+unsigned unsigned long int
+signed long long
+signed signed long long
+signed long long int
+signed signed long long int
+unsigned unsigned long long
+unsigned unsigned long long int
+struct struct s { int a; }
+unsigned long unsigned int long
+signed const int const
+sync int sync
+future future unsigned future
+none const
+none sync
+none int int
+none long long long
+none signed unsigned
+none unsigned unsigned
+none void int
+none void void
+none sync struct s { int a; }
+none future void
+none sync future int";
+
+/// A line has the type of an object, or `none`, and the words that declare it.
+fn check_words(rt: &impl Abort, alloc: Global, line: &str) -> Result<(), Fail> {
+    let (wanted, words) = line.split_once(' ').ok_or("a line")?;
+    let source = format!(in alloc; "{words} x; int main() {{ return 0; }}")?;
+    let got = type_in(alloc, source.as_str())?;
+    assert_eq!(rt; got, wanted, "of {words}");
+    Ok(())
+}
+
 #[test]
 fn lists_of_type_words(rt: HostRuntime) -> Result<(), Fail> {
-    let rows: [(&str, &str); 33] = [
-        ("int", "signed"),
-        ("signed", "signed"),
-        ("signed int", "signed"),
-        ("unsigned", "unsigned"),
-        ("unsigned int", "unsigned"),
-        ("long", "signed"),
-        ("signed long", "signed"),
-        ("long int", "signed"),
-        ("signed long int", "signed"),
-        ("unsigned long", "unsigned"),
-        ("unsigned long int", "unsigned"),
-        ("long long", "signed"),
-        ("signed long long", "signed"),
-        ("long long int", "signed"),
-        ("signed long long int", "signed"),
-        ("unsigned long long", "unsigned"),
-        ("unsigned long long int", "unsigned"),
-        ("struct s { int a; }", "struct"),
-        ("long unsigned int long", "unsigned"),
-        ("const int const", "signed"),
-        ("int sync", "sync"),
-        ("future unsigned future", "future"),
-        ("const", "none"),
-        ("sync", "none"),
-        ("int int", "none"),
-        ("long long long", "none"),
-        ("signed unsigned", "none"),
-        ("unsigned unsigned", "none"),
-        ("void int", "none"),
-        ("void void", "none"),
-        ("sync struct s { int a; }", "none"),
-        ("future void", "none"),
-        ("sync future int", "none"),
-    ];
-    for (words, wanted) in rows {
-        let source = format!(in rt.alloc(); "{words} x; int main() {{ return 0; }}")?;
-        let got = type_in(rt.alloc(), source.as_str())?;
-        assert_eq!(rt; got, wanted, "of {words}");
+    for line in TYPE_WORDS.lines() {
+        check_words(&rt, rt.alloc(), line)?;
     }
     Ok(())
 }
@@ -185,95 +192,59 @@ fn drawn(alloc: Global, before: &str, body: &str) -> Result<String, Fail> {
     }
 }
 
+/// Declarations, statements, and what is drawn of the first expression in them.
+const EXPRESSIONS: &str = r#"@int x; x = 1;@iset 0 iconst 1
+@int x, *p = &x; x = 1;@iwritexf pauto 0 iconst 1
+sync int s;@s = 5;@iwriteef pglobal 0 iconst 5
+sync int s;@int x; x = s;@iset 0 ireadfe pglobal 0
+future int f;@f;@ireadff pglobal 0
+@+5u;@uconst 5
+@5 + 1u;@u+ iconst 5 uconst 1
+@-1u;@uneg uconst 1
+@1u < 2;@i< uconst 1 iconst 2
+@1 << 2u;@i<< iconst 1 uconst 2
+@(int)1u;@icast uconst 1
+@(unsigned)1u;@ucast uconst 1
+@1, 2u;@ucomma iconst 1 uconst 2
+@1 || 2u && 3;@ior iconst 1 iand uconst 2 iconst 3
+@1 ? 2 : 3u;@ucond iconst 1 iconst 2 uconst 3
+int *p;@1 ? 0 : p;@pcond iconst 1 pconst 0 preadxx pglobal 0
+int *p;@p < 0;@i< preadxx pglobal 0 pconst 0
+int *p;@!p;@i! preadxx pglobal 0
+int a[5];@a[1];@ireadxx pindex 5 pglobal 0 iconst 1
+int a[5];@&a[1];@pindex 6 pglobal 0 iconst 1
+int *p;@p[1];@ireadxx pindex preadxx pglobal 0 iconst 1
+int *p;@*p;@ireadxx pindex preadxx pglobal 0 iconst 0
+int *p, a[5];@p = a;@pwritexf pglobal 0 pindex 5 pglobal 1 iconst 0
+struct s { int a; int b; } x;@x.b;@ireadxx pmember 1 pglobal 0
+struct s { int a; int b; }; struct t { struct s a; int b; } x;@x.b;@ireadxx pmember 2 pglobal 0
+struct s { int a; struct s *b; } x;@x.b->a;@ireadxx pmember 0 preadxx pmember 1 pglobal 0
+sync int s;@s += 2;@inew i+ pglobal 0 iconst 2
+sync int s;@s--;@iold i- pglobal 0 iconst 1
+sync int s;@++s;@inew i+ pglobal 0 iconst 1
+@int x; x *= 2;@inew i* ilocal 0 iconst 2
+sync int s;@readfe(&s);@ireadfe pglobal 0
+int s;@readff(&s);@ireadff pglobal 0
+int s;@writeef(&s, 7);@vwriteef pglobal 0 iconst 7
+sync int s;@purge(&s);@vpurge pglobal 0
+int a;@int_fetch_add(&a, 2);@ifetchadd pglobal 0 iconst 2
+void f(unsigned a, int * sync p) { }@f(9, 0);@vcall 0 iconst 9 pconst 0
+int f(int a[3]) { return a[0]; } int b[3];@f(b);@icall 0 pindex 3 pglobal 0 iconst 0
+@printf("%d%%%lu\n", 9, 0);@vprint 0 iconst 9 iconst 0"#;
+
+/// A line has declarations, statements and what is drawn, with `@` between them.
+fn check_drawn(rt: &impl Abort, alloc: Global, line: &str) -> Result<(), Fail> {
+    let (before, rest) = line.split_once('@').ok_or("a line")?;
+    let (body, wanted) = rest.split_once('@').ok_or("a line")?;
+    let got = drawn(alloc, before, body)?;
+    assert_eq!(rt; got.as_str().trim_end(), wanted, "of {before} {body}");
+    Ok(())
+}
+
 #[test]
 fn expressions_as_they_are_made(rt: HostRuntime) -> Result<(), Fail> {
-    let rows: [(&str, &str, &str); 38] = [
-        ("", "int x; x = 1;", "iset 0 iconst 1"),
-        ("", "int x, *p = &x; x = 1;", "iwritexf pauto 0 iconst 1"),
-        ("sync int s;", "s = 5;", "iwriteef pglobal 0 iconst 5"),
-        ("sync int s;", "int x; x = s;", "iset 0 ireadfe pglobal 0"),
-        ("future int f;", "f;", "ireadff pglobal 0"),
-        ("", "+5u;", "uconst 5"),
-        ("", "5 + 1u;", "u+ iconst 5 uconst 1"),
-        ("", "-1u;", "uneg uconst 1"),
-        ("", "1u < 2;", "i< uconst 1 iconst 2"),
-        ("", "1 << 2u;", "i<< iconst 1 uconst 2"),
-        ("", "(int)1u;", "icast uconst 1"),
-        ("", "(unsigned)1u;", "ucast uconst 1"),
-        ("", "1, 2u;", "ucomma iconst 1 uconst 2"),
-        ("", "1 || 2u && 3;", "ior iconst 1 iand uconst 2 iconst 3"),
-        ("", "1 ? 2 : 3u;", "ucond iconst 1 iconst 2 uconst 3"),
-        (
-            "int *p;",
-            "1 ? 0 : p;",
-            "pcond iconst 1 pconst 0 preadxx pglobal 0",
-        ),
-        ("int *p;", "p < 0;", "i< preadxx pglobal 0 pconst 0"),
-        ("int *p;", "!p;", "i! preadxx pglobal 0"),
-        ("int a[5];", "a[1];", "ireadxx pindex 5 pglobal 0 iconst 1"),
-        ("int a[5];", "&a[1];", "pindex 6 pglobal 0 iconst 1"),
-        (
-            "int *p;",
-            "p[1];",
-            "ireadxx pindex preadxx pglobal 0 iconst 1",
-        ),
-        (
-            "int *p;",
-            "*p;",
-            "ireadxx pindex preadxx pglobal 0 iconst 0",
-        ),
-        (
-            "int *p, a[5];",
-            "p = a;",
-            "pwritexf pglobal 0 pindex 5 pglobal 1 iconst 0",
-        ),
-        (
-            "struct s { int a; int b; } x;",
-            "x.b;",
-            "ireadxx pmember 1 pglobal 0",
-        ),
-        (
-            "struct s { int a; int b; }; struct t { struct s a; int b; } x;",
-            "x.b;",
-            "ireadxx pmember 2 pglobal 0",
-        ),
-        (
-            "struct s { int a; struct s *b; } x;",
-            "x.b->a;",
-            "ireadxx pmember 0 preadxx pmember 1 pglobal 0",
-        ),
-        ("sync int s;", "s += 2;", "inew i+ pglobal 0 iconst 2"),
-        ("sync int s;", "s--;", "iold i- pglobal 0 iconst 1"),
-        ("sync int s;", "++s;", "inew i+ pglobal 0 iconst 1"),
-        ("", "int x; x *= 2;", "inew i* ilocal 0 iconst 2"),
-        ("sync int s;", "readfe(&s);", "ireadfe pglobal 0"),
-        ("int s;", "readff(&s);", "ireadff pglobal 0"),
-        ("int s;", "writeef(&s, 7);", "vwriteef pglobal 0 iconst 7"),
-        ("sync int s;", "purge(&s);", "vpurge pglobal 0"),
-        (
-            "int a;",
-            "int_fetch_add(&a, 2);",
-            "ifetchadd pglobal 0 iconst 2",
-        ),
-        (
-            "void f(unsigned a, int * sync p) { }",
-            "f(9, 0);",
-            "vcall 0 iconst 9 pconst 0",
-        ),
-        (
-            "int f(int a[3]) { return a[0]; } int b[3];",
-            "f(b);",
-            "icall 0 pindex 3 pglobal 0 iconst 0",
-        ),
-        (
-            "",
-            "printf(\"%d%%%lu\\n\", 9, 0);",
-            "vprint 0 iconst 9 iconst 0",
-        ),
-    ];
-    for (before, body, wanted) in rows {
-        let got = drawn(rt.alloc(), before, body)?;
-        assert_eq!(rt; got.as_str().trim_end(), wanted, "of {before} {body}");
+    for line in EXPRESSIONS.lines() {
+        check_drawn(&rt, rt.alloc(), line)?;
     }
     Ok(())
 }
