@@ -1,2 +1,3 @@
 pub mod Credits
 pub mod Sizes
+pub mod Roles
