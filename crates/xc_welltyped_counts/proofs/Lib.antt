@@ -1,3 +1,4 @@
 pub mod Credits
 pub mod Sizes
 pub mod Roles
+pub mod Statements
