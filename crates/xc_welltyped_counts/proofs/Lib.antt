@@ -2,3 +2,4 @@ pub mod Credits
 pub mod Sizes
 pub mod Roles
 pub mod Statements
+pub mod Items
