@@ -3,3 +3,4 @@ pub mod Sizes
 pub mod Roles
 pub mod Statements
 pub mod Items
+pub mod Few
