@@ -1,6 +1,6 @@
 -- Tokens pay for nodes: a token pays for five things, and a node of the grammar leaves some over.
-use Rattle.std.proofs.Common.{◌≡◌, ℕ, zero, suc, ◌+◌, ◌≤◌, List, [], ◌∷◌, Bool, true, false, refl, ap, arith, ◌⊎◌, inl, inr, min}
-use Rattle.std.specs.Prelude.{IsTrue, nat_le, Option, Some, None}
+use Rattle.std.proofs.Common.{◌≡◌, ℕ, zero, suc, ◌+◌, ◌≤◌, List, [], ◌∷◌, Bool, true, false, refl, ap, arith, inl, inr, min}
+use Rattle.std.specs.Prelude.{IsTrue, nat_le}
 use Rattle.std.proofs.lemmas.Bool.{leb-true}
 use Rattle.xc_raw.specs.declared.word.Word.TheVariants as word
 use Rattle.xc_raw.specs.declared.rule.Rule.{Rule}

@@ -1,5 +1,5 @@
 -- A word of 32 bits counts what a text declares.
-use Rattle.std.proofs.Common.{◌≡◌, ℕ, ◌+◌, ◌*◌, ◌^◌, ◌≤◌, ◌<◌, List, [], ◌∷◌, ◌++◌, map, length, length-append, Bool, true, false, sym, ap, subst, arith, Some, if◌then◌else◌}
+use Rattle.std.proofs.Common.{◌≡◌, ℕ, ◌+◌, ◌*◌, ◌^◌, ◌≤◌, ◌<◌, List, [], ◌∷◌, ◌++◌, length, length-append, Bool, true, false, sym, subst, arith, Some, if◌then◌else◌}
 use Rattle.std.specs.Prelude.{fold}
 use Rattle.std.specs.List.{list_any}
 use Rattle.std.proofs.lemmas.List.{length-map}
@@ -9,7 +9,6 @@ use Rattle.xc_lex.specs.declared.token.Token.{Token}
 use Rattle.xc_tree.specs.declared.tree.Func.{Func}
 use Rattle.xc_raw.specs.declared.tree.Raw.{Raw}
 use Rattle.xc_parse.specs.Texts.{words_of, Parsed}
-use Rattle.xc_type_rule.specs.declared.found.Member.{Member}
 use Rattle.xc_type_literals.specs.Texts.{is_text, stretch, with_text, stretches, text_at, formats_of}
 use Rattle.xc_type_expressions.specs.declared.text.Text.{Text}
 use Rattle.xc_type_unit.specs.Texts.{whole}

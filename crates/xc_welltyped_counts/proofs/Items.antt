@@ -1,5 +1,5 @@
 -- What items declare.
-use Rattle.std.proofs.Common.{◌≡◌, ℕ, ◌+◌, ◌≤◌, List, [], ◌∷◌, ◌++◌, map, length, length-append, Bool, true, false, refl, sym, ap, ◌∙◌, subst, arith, cond, min}
+use Rattle.std.proofs.Common.{◌≡◌, ℕ, ◌+◌, ◌≤◌, List, [], ◌∷◌, ◌++◌, map, length, length-append, Bool, true, false, refl, ap, subst, arith, cond}
 use Rattle.std.specs.Prelude.{Option, Some, None, zip, option_map, unwrap_or}
 use Rattle.std.proofs.lemmas.List.{length-map}
 use Rattle.std.proofs.lemmas.Slice.Zip.{length-zip}
@@ -15,7 +15,6 @@ use Rattle.xc_type_scopes.specs.Env as env
 use Rattle.xc_type_scopes.specs.Judge.{Judge, each}
 use Rattle.xc_type_expressions.specs.declared.text.Text.{Text}
 use Rattle.xc_type_expressions.specs.declared.types.Declared.{Declared}
-use Rattle.xc_type_expressions.specs.Types.{bounds}
 use Rattle.xc_type_expressions.specs.Judged.{judged, span_in}
 use Rattle.xc_type_statement_parts.specs.declared.answer.Answer.TheVariants as answer
 use Rattle.xc_type_statement_parts.specs.Making.{one, followed}
@@ -28,7 +27,6 @@ use Rattle.xc_type_unit.specs.Parameters as parameters
 use Rattle.xc_type_unit.specs.Functions as functions
 use Rattle.xc_type_unit.specs.Functions.{Bodies, local_of, locals_of, func_of}
 use Rattle.xc_type_unit.specs.Texts as texts
-use Rattle.xc_welltyped_claims.specs.Lists.{Each}
 use Rattle.xc_welltyped_claims.proofs.Lists.{each_both, each_more}
 use Rattle.xc_welltyped_counts.specs.Costs.{held, Costs, AreFuncs, Holds, ItemCosts}
 use Rattle.xc_welltyped_counts.proofs.Roles.{keeps, cost, costs, role_known, all_known, costs_bounds, parts_less}
@@ -204,8 +202,11 @@ module _ (t : Text) where
       let named = costs_named_function b h.part h.part.name h.env in
       record {
         now = omega (arith, last, first, named);
-        funcs = λ fs is. (let few = d.funcs fs is in (few.0, each_more (λ (f : Func). length f.locals ≤ held x.env + costs t rest) (λ (f : Func). length f.locals ≤ held e + (cost t params + costs t rest))
-        (λ f less. omega (arith, less, first, named)) fs few.1));
+        funcs = λ fs is. (let few = d.funcs fs is in (
+          few.0,
+          each_more (λ (f : Func). length f.locals ≤ held x.env + costs t rest) (λ (f : Func). length f.locals ≤ held e + (cost t params + costs t rest))
+              (λ f less. omega (arith, less, first, named)) fs few.1,
+        ));
       }
 
   followed_few : (a b : Option (List Func)) (n m most : ℕ) → ((fs : List Func) → a ≡ Some fs → AreFuncs n most fs) → ((fs : List Func) → b ≡ Some fs → AreFuncs m most fs) →
@@ -229,8 +230,8 @@ module _ (t : Text) where
       record {
         held = omega (arith, le, now, more);
         funcs = λ fs is. (let few = followed_few s.funcs (j s.env).part from 1 most h.funcs
-        (λ gs are. (let one = d.funcs gs are in (one.0, each_more (λ (f : Func). length f.locals ≤ held s.env + (cost t params + costs t rest)) (λ (f : Func). length f.locals ≤ most) (λ f less. omega (arith, less, le, now, within)) gs one.1)))
-        fs is in (omega (arith, few.0, le), few.1));
+            (λ gs are. (let one = d.funcs gs are in (one.0, each_more (λ (f : Func). length f.locals ≤ held s.env + (cost t params + costs t rest)) (λ (f : Func). length f.locals ≤ most) (λ f less. omega (arith, less, le, now, within)) gs one.1)))
+            fs is in (omega (arith, few.0, le), few.1));
       }
 
   costs_function : (b : Bodies) (ps : List Raw) → ItemCosts (1 + costs t ps) (functions.function t b ps)

@@ -1,8 +1,7 @@
 -- What expressions, specifiers, structs and declarators declare.
-use Rattle.std.proofs.Common.{◌≡◌, ℕ, ◌+◌, ◌≤◌, List, [], ◌∷◌, map, length, length-append, length-set, Bool, true, false, refl, sym, ap, ◌∙◌, subst, cond, arith}
+use Rattle.std.proofs.Common.{◌≡◌, ℕ, ◌+◌, ◌≤◌, List, [], ◌∷◌, map, length, length-append, length-set, Bool, true, false, refl, sym, ap, subst, cond, arith}
 use Rattle.std.specs.Prelude.{option_and_then, Option, Some, None}
 use Rattle.xc_text_place.specs.declared.Span.{Span}
-use Rattle.xc_lex.specs.declared.token.Token.{Token}
 use Rattle.xc_tree.specs.declared.ty.Ty.{Ty}
 use Rattle.xc_raw.specs.declared.rule.Rule.{Rule}
 use Rattle.xc_raw.specs.declared.rule.Rule.TheVariants as rule
@@ -12,7 +11,6 @@ use Rattle.xc_raw.specs.declared.word.Word.TheVariants as word
 use Rattle.xc_raw.specs.declared.word.Literal.TheVariants as literal
 use Rattle.xc_raw.specs.declared.word.Access.TheVariants as access
 use Rattle.xc_type_rule.specs.declared.found.Found.{Found}
-use Rattle.xc_type_rule.specs.declared.found.Member.{Member}
 use Rattle.xc_type_rule.specs.Least.{type_fault}
 use Rattle.xc_type_rule.specs.Making.{unknown_place}
 use Rattle.xc_type_rule_places.specs.Places.{name_part, name_faults}
@@ -40,7 +38,7 @@ use Rattle.xc_type_expressions.specs.Judged.{with_none, suffixed, with_one, elem
 use Rattle.xc_welltyped_claims.specs.Lists.{Each}
 use Rattle.xc_welltyped_claims.proofs.Nodes as nodes
 use Rattle.xc_welltyped_claims.proofs.Nodes.{judged_is}
-use Rattle.xc_welltyped_counts.specs.Sizes.{total, size, sizes}
+use Rattle.xc_welltyped_counts.specs.Sizes.{size, sizes}
 use Rattle.xc_welltyped_counts.specs.Costs.{held, Costs, RoleCosts}
 use Rattle.xc_welltyped_counts.proofs.Sizes.{size_is}
 

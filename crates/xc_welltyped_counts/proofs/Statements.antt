@@ -26,7 +26,7 @@ use Rattle.xc_type_expressions.specs.declared.types.Declared.{Declared}
 use Rattle.xc_type_expressions.specs.Roles.{value}
 use Rattle.xc_type_expressions.specs.Places.{name_of, named}
 use Rattle.xc_type_expressions.specs.Judged.{judged, span_in}
-use Rattle.xc_type_initialisers.specs.Initialisers.{Initialiser, placed, fitted, valued, in_turn, braced, given_by, initialiser_of, initialiser, local_inits, global_inits}
+use Rattle.xc_type_initialisers.specs.Initialisers.{placed, fitted, valued, in_turn, braced, given_by, initialiser_of, initialiser, local_inits, global_inits}
 use Rattle.xc_type_statement_parts.specs.declared.answer.Answer.{Answer}
 use Rattle.xc_type_statement_parts.specs.declared.futures.Copied.{Copied}
 use Rattle.xc_type_statement_parts.specs.Pragmas.{begun}

@@ -1,7 +1,7 @@
 -- How much a node declares at most.
 use Rattle.std.specs.Prelude.{ℕ, ◌+◌, List, [], ◌∷◌, length, map}
 use Rattle.xc_lex.specs.declared.token.Token.{Token}
-use Rattle.xc_raw.specs.declared.tree.Raw.{Raw, out-Raw}
+use Rattle.xc_raw.specs.declared.tree.Raw.{Raw}
 use Rattle.xc_raw_parts.specs.Names.{captured_names}
 use Rattle.xc_raw_parts.specs.Nodes.{by_nodes}
 
