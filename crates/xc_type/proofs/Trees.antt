@@ -1,9 +1,8 @@
 -- The tree of a text without faults is well typed.
-use Rattle.std.proofs.Common.{◌≡◌, ℕ, ◌^◌, ◌<◌, List, [], ◌∷◌, length, Bool, true, false, cond, refl, sym, ap, ◌∙◌, subst}
+use Rattle.std.proofs.Common.{◌≡◌, ℕ, ◌^◌, ◌≤◌, List, [], ◌∷◌, length, Bool, true, false, cond, refl, sym, ap, ◌∙◌, subst}
 use Rattle.std.specs.Prelude.{IsTrue, is_some, Option, Some, None}
-use Rattle.std.specs.List.{All, list_all}
+use Rattle.std.specs.List.{All}
 use Rattle.std.specs.Option.{option_zip}
-use Rattle.std.proofs.lemmas.Bool.{ltb-true}
 use Rattle.std.proofs.lemmas.Grind.{common_steps}
 use Rattle.xc_lex.specs.declared.token.Token.{Token}
 use Rattle.xc_lex.specs.Source.{IsSpelled}
@@ -12,7 +11,6 @@ use Rattle.xc_parse.specs.Texts.{words_of, Parsed}
 use Rattle.xc_tree.specs.declared.ty.Ty.{Ty}
 use Rattle.xc_tree.specs.declared.tree.Func.{Func}
 use Rattle.xc_tree.specs.Valid.{tree_ok}
-use Rattle.xc_tree.proofs.Lists.{and_left, and_right}
 use Rattle.xc_type_rule.specs.declared.fault.Fault.{Fault}
 use Rattle.xc_type_rule.specs.declared.found.Member.{Member}
 use Rattle.xc_type_rule.specs.Least.{is_before, least_from}
@@ -25,10 +23,12 @@ use Rattle.xc_type_unit.specs.Texts.{whole, main_in}
 use Rattle.xc_welltyped_claims.specs.Lists.{Each}
 use Rattle.xc_welltyped_claims.specs.Table.{with_known, tys_of, struct_tys}
 use Rattle.xc_welltyped_claims.proofs.Texts as texts
-use Rattle.xc_welltyped_unit.specs.Files.{AreFew, IsTyped}
+use Rattle.xc_welltyped_counts.specs.Few.{AreFew}
+use Rattle.xc_welltyped_counts.proofs.Few.{whole_few}
+use Rattle.xc_welltyped_unit.specs.Files.{IsTyped}
 use Rattle.xc_welltyped_unit.proofs.Whole.{whole_typed}
 use Rattle.xc_type.specs.Checked.{known_types, struct_types, scope_of}
-use Rattle.xc_type.specs.InnerChecked.{is_few, are_few, IsWholeOf}
+use Rattle.xc_type.specs.InnerChecked.{IsWholeOf}
 
 -- types of members -------------------------------------------------------------
 
@@ -52,42 +52,22 @@ structs_known [] h = refl
 structs_known (ms ∷ ss) h = ap (λ o. followed (one o) (struct_types ss)) (types_known ms h.0)
     ∙ (ap (followed (one (Some (tys_of ms)))) (structs_known ss h.1) ∙ struct_more (tys_of ms) (struct_tys ss))
 
--- counts -----------------------------------------------------------------------
-
-locals_few : (fs : List Func) → IsTrue (list_all (λ (f : Func). is_few (length f.locals)) fs) → Each (λ (f : Func). length f.locals < 2 ^ 32) fs
-locals_few [] h = tt
-locals_few (f ∷ fs) h = (ltb-true (length f.locals) (2 ^ 32) (and_left (is_few (length f.locals)) _ h), locals_few fs (and_right (is_few (length f.locals)) _ h))
-
-few_of : (structs : List (List Ty)) (funcs : List Func) (formats : List (List ℕ)) → IsTrue (are_few (length structs) funcs (length formats)) → AreFew structs funcs formats
-few_of structs funcs formats h =
-    let behind = and_right (is_few (length structs)) _ h in
-    let rest = and_right (is_few (length funcs)) _ behind in
-    record {
-      few_structs = ltb-true (length structs) (2 ^ 32) (and_left (is_few (length structs)) _ h);
-      few_funcs = ltb-true (length funcs) (2 ^ 32) (and_left (is_few (length funcs)) _ behind);
-      few_formats = ltb-true (length formats) (2 ^ 32) (and_left (is_few (length formats)) _ rest);
-      few_locals = locals_few funcs (and_right (is_few (length formats)) _ rest);
-    }
-
 -- the tree ---------------------------------------------------------------------
 
 same_some : {A : Type 0} (o : Option A) (x y : A) → o ≡ Some x → o ≡ Some y → x ≡ y
 same_some o x y e h = let both : Some x ≡ Some y = sym e ∙ h in cc
 
 pub tree_valid : (s : FileScope) (main : Option ℕ) (formats : List (List ℕ)) (structs : List (List Ty)) (funcs : List Func) (n : ℕ) → IsTyped s main formats →
-    struct_types s.env.structs.members ≡ Some structs → s.funcs ≡ Some funcs → main ≡ Some n → are_few (length structs) funcs (length formats) ≡ true →
+    struct_types s.env.structs.members ≡ Some structs → s.funcs ≡ Some funcs → main ≡ Some n →
     IsTrue (tree_ok structs s.globals funcs formats s.env.loops n)
-tree_valid s main formats structs funcs n typed structs_are funcs_are main_is few =
+tree_valid s main formats structs funcs n typed structs_are funcs_are main_is =
     let same_structs = same_some (struct_types s.env.structs.members) (struct_tys s.env.structs.members) structs (structs_known s.env.structs.members typed.members) structs_are in
     let same_funcs = same_some s.funcs typed.funcs funcs typed.funcs_are funcs_are in
     let same_main = same_some main typed.number n typed.main_is main_is in
-    let counted : IsTrue (are_few (length (struct_tys s.env.structs.members)) typed.funcs (length formats)) =
-    subst (λ fs. IsTrue (are_few (length (struct_tys s.env.structs.members)) fs (length formats))) (sym same_funcs)
-    (subst (λ ss. IsTrue (are_few (length ss) funcs (length formats))) (sym same_structs) few) in
     subst (λ ss. IsTrue (tree_ok ss s.globals funcs formats s.env.loops n)) same_structs
     (subst (λ fs. IsTrue (tree_ok (struct_tys s.env.structs.members) s.globals fs formats s.env.loops n)) same_funcs
     (subst (λ k. IsTrue (tree_ok (struct_tys s.env.structs.members) s.globals typed.funcs formats s.env.loops k)) same_main
-    (typed.valid (few_of (struct_tys s.env.structs.members) typed.funcs formats counted))))
+    typed.valid))
 
 -- the function `main`, the functions and the types of the structs are known
 pub all_known : (s : FileScope) (main : Option ℕ) (formats : List (List ℕ)) → IsTyped s main formats →
@@ -116,16 +96,18 @@ no_faults [] e = refl
 no_faults (f ∷ fs) e = absurd (least_some fs f e)
 
 -- what the declarations of a text without faults make is well typed
-pub typed_whole : (source : List ℕ) (tokens : List Token) (raw : Raw) (w : Whole) (formats : List (List ℕ)) → All (IsSpelled source) tokens → Parsed (words_of source tokens) raw →
+pub typed_whole : (source : List ℕ) (tokens : List Token) (raw : Raw) (w : Whole) (formats : List (List ℕ)) → length tokens ≤ 2 ^ 20 → All (IsSpelled source) tokens → Parsed (words_of source tokens) raw →
     IsWholeOf source tokens raw w → formats ≡ formats_of source tokens → IsTyped w.scope w.main formats
-typed_whole source tokens raw w formats spelled parsed h is =
+typed_whole source tokens raw w formats short spelled parsed h is =
     let t = h.0 in
     let x = h.1 in
     let made = h.2 in
     let main = main_in t (bodies_of t (out-Raw raw).parts) in
     let lexed = texts.lexed source tokens t x.source_is x.tokens_are x.names x.constants x.numbers x.formats x.takes in
     let unit = texts.shaped source tokens t x.source_is x.tokens_are x.names x.constants x.numbers x.formats x.takes spelled raw parsed in
-    let end = whole_typed t raw lexed unit (no_faults (whole t raw).faults made.faultless.faultless) made.faultless.within in
+    let few = λ (funcs : List Func) (known : (whole t raw).scope.funcs ≡ Some funcs). subst (AreFew (struct_tys (whole t raw).scope.env.structs.members) funcs) (sym x.formats)
+    (whole_few source tokens t raw x.tokens_are short parsed funcs known) in
+    let end = whole_typed t raw lexed unit few (no_faults (whole t raw).faults made.faultless.faultless) made.faultless.within in
     subst (λ m. IsTyped w.scope m formats) (sym made.main_is)
     (subst (λ s. IsTyped s main formats) (sym made.scope)
     (subst (λ fs. IsTyped (scope_of t raw) main fs) (x.formats ∙ sym is) end))

@@ -1,10 +1,8 @@
 -- What only private functions and proofs speak of, beside `Checked`.
-use Rattle.std.specs.Prelude.{◌≡◌, ℕ, ◌^◌, Bool, ◌&&◌, nat_lt, List, length, Option, option_and_then, slice_get}
-use Rattle.std.specs.List.{list_all}
+use Rattle.std.specs.Prelude.{◌≡◌, ℕ, List, Option, option_and_then, slice_get}
 use Rattle.xc_lex.specs.declared.token.Token.{Token}
 use Rattle.xc_raw.specs.declared.tree.Raw.{Raw, out-Raw}
 use Rattle.xc_tree.specs.declared.ty.Ty.{Ty}
-use Rattle.xc_tree.specs.declared.tree.Func.{Func}
 use Rattle.xc_type_rule.specs.declared.found.Member.{Member}
 use Rattle.xc_type_expressions.specs.declared.text.Text.{Text}
 use Rattle.xc_type_unit.specs.declared.text.Whole.{Whole}
@@ -15,14 +13,6 @@ use Rattle.xc_type.specs.Checked.{IsText, scope_of, IsFaultless}
 -- the type of the member with this number, if it is there and known
 abbrev pub type_at : List Member → ℕ → Option Ty
 type_at ms n = option_and_then (λ m. m.ty) (slice_get ms n)
-
--- a number of 32 bits counts so many
-abbrev pub is_few : ℕ → Bool
-is_few n = nat_lt n (2 ^ 32)
-
--- so many structs and formats, and these functions with their locals
-abbrev pub are_few : ℕ → List Func → ℕ → Bool
-are_few structs funcs formats = is_few structs && (is_few (length funcs) && (is_few formats && list_all (λ f. is_few (length f.locals)) funcs))
 
 -- what its declarations make, and the number of its `main`
 pub record IsWhole (t : Text) (raw : Raw) (w : Whole) : Type 0 where

@@ -1,7 +1,6 @@
 //! The tree of a text that breaks no rule.
 
-ghost use Rattle.std.specs.Prelude.{◌≡◌, length, IfOk, IfErr};
-ghost use Rattle.std.specs.List.{list_all};
+ghost use Rattle.std.specs.Prelude.{◌≡◌, IfOk, IfErr};
 ghost use Rattle.xc_welltyped_unit.specs.Files.{IsTyped};
 ghost use Rattle.xc_type.specs.Checked as spec;
 ghost use Rattle.xc_type.specs.InnerChecked as inner_spec;
@@ -12,7 +11,6 @@ use sqlite_items::Items;
 use std::alloc::{AllocError, Global};
 use xc_hold::kept;
 use xc_text_place::Span;
-use xc_tree::tree::Func;
 use xc_tree::{Tree, Ty};
 use xc_type_scopes::Env;
 use xc_type_statement_parts::{followed, one};
@@ -52,24 +50,6 @@ fn struct_types(alloc: Global, structs: &[Members]) -> Result<Option<Items<Items
     Ok(all)
 }
 
-fn is_few(n: usize) -> bool
-    ensures { result ≡ inner_spec.is_few n }
-{
-    n <= u32::MAX as usize
-}
-
-fn have_few_locals(funcs: &[Func]) -> bool
-    ensures { result ≡ list_all (λ f. inner_spec.is_few (length f.locals)) funcs.now }
-{
-    funcs.iter().all(|func| is_few(func.locals.len()))
-}
-
-fn are_few(structs: usize, funcs: &[Func], formats: usize) -> bool
-    ensures { result ≡ inner_spec.are_few structs funcs.now formats }
-{
-    is_few(structs) && is_few(funcs.len()) && is_few(formats) && have_few_locals(funcs)
-}
-
 /// The types of the structs, where all are known, and the notes.
 fn structs_and_notes(
     alloc: Global,
@@ -82,7 +62,7 @@ fn structs_and_notes(
     kept(struct_types(alloc, env.structs().members()), notes)
 }
 
-/// The tree; want of memory also where 32 bits do not count its structs, functions, formats or locals.
+/// The tree.
 #[tactic(auto, using(crate::proofs::Trees::tree_rules))]
 pub(crate) fn made(
     alloc: Global,
@@ -108,20 +88,14 @@ pub(crate) fn made(
     let ((structs, notes), (globals, funcs, formats)) = kept(copied, others)?;
     match main.zip(funcs.zip(structs)) {
         None => unreachable!(),
-        Some((main, (funcs, structs))) => {
-            if !are_few(structs.len(), funcs.as_slice(), formats.len()) {
-                drop((structs, globals, funcs, formats, notes));
-                return Err(CheckFault::NoMemory);
-            }
-            Ok(Tree {
-                structs,
-                globals,
-                funcs,
-                formats,
-                notes,
-                loops,
-                main,
-            })
-        }
+        Some((main, (funcs, structs))) => Ok(Tree {
+            structs,
+            globals,
+            funcs,
+            formats,
+            notes,
+            loops,
+            main,
+        }),
     }
 }

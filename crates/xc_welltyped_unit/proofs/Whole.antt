@@ -41,7 +41,8 @@ use Rattle.xc_welltyped_structs.proofs.Valid.{structs_valid}
 use Rattle.xc_welltyped_structs.proofs.Sizes.{cells_told}
 use Rattle.xc_welltyped_statements.proofs.Values.{some_of}
 use Rattle.xc_welltyped_unit.proofs.Does.{item_does}
-use Rattle.xc_welltyped_unit.specs.Files.{FuncFine, GlobalFine, FileFine, AreFew, IsTyped}
+use Rattle.xc_welltyped_counts.specs.Few.{AreFew}
+use Rattle.xc_welltyped_unit.specs.Files.{FuncFine, GlobalFine, FileFine, IsTyped}
 use Rattle.xc_welltyped_unit.proofs.Bodies.{definitions, bodies_apart, bodies_below}
 use Rattle.xc_welltyped_unit.proofs.Empty.{empty_fine}
 use Rattle.xc_welltyped_unit.proofs.Counts.{items_count}
@@ -179,14 +180,14 @@ module _ (t : Text) (raw : Raw) (lexed : IsLexed t) (unit : IsUnit t raw) where
         all_true (tree_tests structs s.globals f.funcs t.texts.now.formats s.env.loops n)
         (funcs, (globals, (fits_all, (table_valid.ok, (formats, (ids, (f.ids.0, (named, (m.1, (few_funcs, (few_structs, (few_formats, tt))))))))))))
 
-    typed : IsTyped s (main_in t b) t.texts.now.formats
-    typed = record {
+    typed : AreFew structs f.funcs t.texts.now.formats → IsTyped s (main_in t b) t.texts.now.formats
+    typed few = record {
       members = table_valid.typed;
       funcs = f.funcs;
       funcs_are = f.known;
       number = n;
       main_is = main;
-      valid = tree_fine;
+      valid = tree_fine few;
     }
 
   items_of : (r : Rule) → r ≡ rule.Unit → (ps : List Raw) → IsTrue (level_ok t raw r ps) → IsTrue (all_of is_item ps)
@@ -197,14 +198,15 @@ module _ (t : Text) (raw : Raw) (lexed : IsLexed t) (unit : IsUnit t raw) where
   no_token : is_token (rule_in raw) nodes ≡ false
   no_token = ap (λ r. is_token r nodes) unit.unit
 
-  pub whole_typed : (whole t raw).faults ≡ [] → (whole t raw).scope.env.over ≡ None → IsTyped (whole t raw).scope (main_in t b) t.texts.now.formats
+  pub whole_typed : ((funcs : List Func) → (whole t raw).scope.funcs ≡ Some funcs → AreFew (struct_tys (whole t raw).scope.env.structs.members) funcs t.texts.now.formats) →
+      (whole t raw).faults ≡ [] → (whole t raw).scope.env.over ≡ None → IsTyped (whole t raw).scope (main_in t b) t.texts.now.formats
   unfolding whole_by items
-  whole_typed none within =
+  whole_typed few none within =
       let a = in_turn (map (item t b) nodes) empty in
       let done = items_done t b (item_does t lexed b (bodies_apart t nodes)) nodes (parts_shaped t raw unit.shaped) (items_of (rule_in raw) unit.unit nodes (level_shaped t raw unit.shaped))
       empty (empty_fine t b) (none_left a.faults (main_faults t b) none) within in
       let main = some_of (main_in t b) (unless_told (is_some (main_in t b)) (end_of t) (none_right a.faults (main_faults t b) none)) in
-      let end = typed a.scope done.0 (items_count t b nodes empty) (spoken_of t lexed raw unit.shaped no_token done.1) main.0 main.1 in
+      let end = typed a.scope done.0 (items_count t b nodes empty) (spoken_of t lexed raw unit.shaped no_token done.1) main.0 main.1 (few done.0.funcs done.0.known) in
       record {
         members = end.members;
         funcs = end.funcs;

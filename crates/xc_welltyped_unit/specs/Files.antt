@@ -87,13 +87,6 @@ DoesParts t b parts i = (s : FileScope) → FileFine t b s → CleanItem i s →
 
 -- the tree --------------------------------------------------------------------------
 
--- as many as a word of 32 bits can count
-pub record AreFew (structs : List (List Ty)) (funcs : List Func) (formats : List (List ℕ)) : Type 0 where
-  pub few_structs : length structs < 2 ^ 32
-  pub few_funcs : length funcs < 2 ^ 32
-  pub few_formats : length formats < 2 ^ 32
-  pub few_locals : Each (λ f. length f.locals < 2 ^ 32) funcs
-
 -- file scope at the end of a text has all that a typed tree has
 pub record IsTyped (s : FileScope) (main : Option ℕ) (formats : List (List ℕ)) : Type 0 where
   pub members : Each (λ ms. Each (λ m. IsTrue (is_some m.ty)) ms) s.env.structs.members
@@ -101,4 +94,4 @@ pub record IsTyped (s : FileScope) (main : Option ℕ) (formats : List (List ℕ
   pub funcs_are : s.funcs ≡ Some funcs
   pub number : ℕ
   pub main_is : main ≡ Some number
-  pub valid : AreFew (struct_tys s.env.structs.members) funcs formats → IsTrue (tree_ok (struct_tys s.env.structs.members) s.globals funcs formats s.env.loops number)
+  pub valid : IsTrue (tree_ok (struct_tys s.env.structs.members) s.globals funcs formats s.env.loops number)

@@ -1,4 +1,4 @@
-use Rattle.std.proofs.Common.{sym, subst}
+use Rattle.std.proofs.Common.{◌^◌, ◌≤◌, length, sym, subst}
 use Rattle.std.specs.Prelude.{IfOk}
 use Rattle.std.specs.List.{All}
 use Rattle.xc_lex.specs.Source.{IsSpelled}
@@ -16,6 +16,7 @@ pub made-requires : goal.made-requires
 made-requires c =
     let same = sym c.as_slice-tokens.ensures in
     typed_whole c.args.source.now c.as_slice-tokens.result.now c.args.raw c.in_ok-whole.whole c.in_ok-texts.texts.formats
+    (subst (λ ts. length ts ≤ 2 ^ 20) same c.requires.few)
     (subst (λ ts. All (IsSpelled c.args.source.now) ts) same c.requires.spelled)
     (subst (λ ts. Parsed (words_of c.args.source.now ts) c.args.raw) same c.requires.parsed)
     c.in_ok-whole.ensures.whole c.in_ok-texts.ensures.formats

@@ -1,0 +1,2 @@
+//! How much a text declares, by how many tokens it has.
+#![tactic(auto)]
