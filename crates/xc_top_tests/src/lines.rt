@@ -531,12 +531,40 @@ fn words_that_are_no_command(rt: HostRuntime) -> Result<(), Fail> {
 #[test]
 fn names_that_begin_with_a_dash(rt: HostRuntime) -> Result<(), Fail> {
     let rows = [
-        ("exec -- --record", E1, "", 1, "", "xmtc: cannot read --record\n"),
-        ("exec --seed 1 -- -s", E1, "", 1, "", "xmtc: cannot read -s\n"),
+        (
+            "exec -- --record",
+            E1,
+            "",
+            1,
+            "",
+            "xmtc: cannot read --record\n",
+        ),
+        (
+            "exec --seed 1 -- -s",
+            E1,
+            "",
+            1,
+            "",
+            "xmtc: cannot read -s\n",
+        ),
         ("compile -- --", E1, "", 1, "", "xmtc: cannot read --\n"),
         ("exec -", E1, "", 1, "", "xmtc: cannot read -\n"),
-        ("exec --schedule - a.s", E1, "", 1, "", "xmtc: cannot read -\n"),
-        ("exec --schedule=-s a.s", E1, "", 1, "", "xmtc: cannot read -s\n"),
+        (
+            "exec --schedule - a.s",
+            E1,
+            "",
+            1,
+            "",
+            "xmtc: cannot read -\n",
+        ),
+        (
+            "exec --schedule=-s a.s",
+            E1,
+            "",
+            1,
+            "",
+            "xmtc: cannot read -s\n",
+        ),
     ];
     check(&rt, rt.alloc(), &rows)
 }
