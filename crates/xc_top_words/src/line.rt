@@ -1,6 +1,6 @@
 //! The arguments of each command, and the words read by them.
 
-ghost use Rattle.std.specs.Prelude.{◌≡◌, Some, None, [], true, false, codes, map, string_bytes, option_map, IfOk, MatchResult};
+ghost use Rattle.std.specs.Prelude.{◌≡◌, Some, None, [], true, false, map, string_bytes, option_map, IfOk, MatchResult};
 ghost use Rattle.clap.specs.Words.{app_of, found_of, is_simple, is_simple_and_free, rows_of, rule_of};
 ghost use Rattle.xc_top_words.specs.Words.{option as option_rule, flag as flag_rule, file as file_rule, line_of, option_names, run_line as run_line_app, compile_line as compile_line_app, rows_of_words, value_in};
 

@@ -1,4 +1,4 @@
-use Rattle.std.proofs.Common.{◌≡◌, map, string_bytes, Result, Ok, Err}
+use Rattle.std.proofs.Common.{map, string_bytes, Result, Ok, Err}
 use Rattle.std.specs.Prelude.{IsErrAnd, MatchResult}
 use Rattle.clap.specs.Words.{app_of}
 use Rattle.xc_top_words.proofs.LineLemmas.{rows_refused, rows_taken}
