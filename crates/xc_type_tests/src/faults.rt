@@ -9,7 +9,7 @@ use xc_type::CheckFault;
 
 fn told(fault: &CheckFault) -> (&'static str, Option<Pos>) {
     match fault {
-        CheckFault::NoMemory => ("no memory", None),
+        CheckFault::NoMemory => ("memory", None),
         CheckFault::Name(pos) => ("name", Some(*pos)),
         CheckFault::Typing(pos) => ("type", Some(*pos)),
         CheckFault::Count(pos) => ("count", Some(*pos)),
@@ -50,7 +50,7 @@ fn check_line(rt: &impl Abort, alloc: Global, line: &str) -> Result<(), Fail> {
     let (source, at) = unmarked(alloc, marked)?;
     let (kind, pos) = answer(alloc, source.as_slice())?;
     drop(source);
-    assert!(rt; kind == wanted && pos == at, "{kind} of {marked}");
+    assert!(rt; kind == wanted && pos == at, "{wanted} of {marked}");
     Ok(())
 }
 
@@ -137,7 +137,7 @@ ok int f(int * sync p, int * sync q[]) { return 0; } int main() { return 0; }
 type int @* sync f(); int main() { return 0; }
 type int @* sync future x; int main() { return 0; }
 ok int ****************************************************************x; int main() { return 0; }
-no memory int *****************************************************************x; int main() { return 0; }"#;
+memory int *****************************************************************x; int main() { return 0; }"#;
 
 #[test]
 fn types_and_objects(rt: HostRuntime) -> Result<(), Fail> {
