@@ -1,5 +1,5 @@
 -- What a source is compiled to, and why one is refused.
-use Rattle.std.specs.Prelude.{◌≡◌, ℕ, List, Option, Some, None}
+use Rattle.std.specs.Prelude.{◌≡◌, ℕ, List, Option, Some, None, Result, MatchResult}
 use Rattle.xc_text_place.specs.declared.Span.{Span}
 use Rattle.xc_text_place.specs.declared.Pos.{Pos}
 use Rattle.xc_text_place.specs.Place.{IsPosition}
@@ -45,8 +45,7 @@ pub record IsCompiled (source : List ℕ) (c : Compiled) : Type 0 where
 abbrev pub IsUnbuilt : List ℕ → Pos → Type 0
 IsUnbuilt source pos = (tree : Tree) × IsTreeOf source tree × (at : Span) × (unbuilt_of tree ≡ Some at) × IsPosition source at.start pos
 
--- Why there is no code. The kinds exclude one another: there are tokens where Lex is not the reason, an untyped tree where Syntax and
--- Depth are not, and a typed one where Name, Typing and Count are not.
+-- Why there is no code: by what the source does not have, and where.
 abbrev pub IsRefusal : List ℕ → RefusalKind → Pos → Type 0
 IsRefusal source Lex pos = IsLexFault source (lex.At pos)
 IsRefusal source Syntax pos = (tokens : List Token) × AreTokens source tokens × IsParseFault source tokens (parse.Syntax pos)
@@ -59,3 +58,23 @@ IsRefusal source Unbuilt pos = IsUnbuilt source pos
 abbrev pub IsRefused : List ℕ → CompileFault → Type 0
 IsRefused source NoMemory = Unit {0}
 IsRefused source (Refused r) = IsRefusal source r.kind r.at
+
+-- ---- one answer
+
+-- The source has no other tree, and no reason why there is no code.
+pub record IsOnlyTree (source : List ℕ) (tree : Tree) : Type 0 where
+  pub once : (t : Tree) → IsTreeOf source t → t ≡ tree
+  pub unrefused : (kind : RefusalKind) (pos : Pos) → IsRefusal source kind pos → ⊥
+
+-- There is no other reason and no other place. Where the source has a tree, the reason is a form without code.
+pub record IsOnlyRefusal (source : List ℕ) (kind : RefusalKind) (pos : Pos) : Type 0 where
+  pub once : (k : RefusalKind) (p : Pos) → IsRefusal source k p → (k ≡ kind) × (p ≡ pos)
+  pub unbuilt : (t : Tree) → IsTreeOf source t → (kind ≡ Unbuilt) × (at : Span) × (unbuilt_of t ≡ Some at) × IsPosition source at.start pos
+
+abbrev pub IsOnlyRefused : List ℕ → CompileFault → Type 0
+IsOnlyRefused source NoMemory = Unit {0}
+IsOnlyRefused source (Refused r) = IsOnlyRefusal source r.kind r.at
+
+-- A source with a tree all of whose forms have code gets code, unless memory is used up.
+abbrev pub IsComplete : List ℕ → Result Compiled CompileFault → Type 0
+IsComplete source result = (tree : Tree) → IsTreeOf source tree → unbuilt_of tree ≡ None → MatchResult result (λ c. c.tree ≡ tree) (λ e. e ≡ NoMemory)

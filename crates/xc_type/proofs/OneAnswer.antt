@@ -40,15 +40,10 @@ are_same source tokens t u a b = record {
   takes = a.takes ∙ sym b.takes;
 }
 
--- the same fault, but for want of memory
-abbrev pub IsSame : CheckFault → CheckFault → Type 0
-IsSame NoMemory f = Unit {0}
-IsSame (Name p) NoMemory = Unit {0}
-IsSame (Typing p) NoMemory = Unit {0}
-IsSame (Count p) NoMemory = Unit {0}
-IsSame (Name p) f = Name p ≡ f
-IsSame (Typing p) f = Typing p ≡ f
-IsSame (Count p) f = Count p ≡ f
+-- it is a fault of the text
+abbrev pub IsTold : CheckFault → Type 0
+IsTold NoMemory = ⊥
+IsTold _ = Unit {0}
 
 module _ (source : List ℕ) (tokens : List Token) (raw : Raw) (t u : Text) (a : IsText source tokens t) (b : IsText source tokens u) where
   abbrev same : AreSame t u
@@ -66,20 +61,20 @@ module _ (source : List ℕ) (tokens : List Token) (raw : Raw) (t u : Text) (a :
       let both : f ≡ g = (let e = sym is ∙ first_same ∙ also in cc) in
       (both, same_position t.source.now u.source.now f.at g.at p q same.source (ap (λ (x : Fault). x.at) both) at there)
 
-  one_in : (e f : CheckFault) → IsFaultIn t raw e → IsFaultIn u raw f → IsSame e f
-  one_in NoMemory f h k = tt
-  one_in (Name p) NoMemory h k = tt
-  one_in (Typing p) NoMemory h k = tt
-  one_in (Count p) NoMemory h k = tt
-  one_in (Name p) (Name q) h k = ap Name (at_first h.0 k.0 p q h.1 k.1 h.2.1 k.2.1).1
-  one_in (Name p) (Typing q) h k = absurd (let e = (at_first h.0 k.0 p q h.1 k.1 h.2.1 k.2.1).0 in let x = h.2.0 in let y = k.2.0 in cc)
-  one_in (Name p) (Count q) h k = absurd (let e = sym h.1 ∙ first_same ∙ k.0 in cc)
-  one_in (Typing p) (Name q) h k = absurd (let e = (at_first h.0 k.0 p q h.1 k.1 h.2.1 k.2.1).0 in let x = h.2.0 in let y = k.2.0 in cc)
-  one_in (Typing p) (Typing q) h k = ap Typing (at_first h.0 k.0 p q h.1 k.1 h.2.1 k.2.1).1
-  one_in (Typing p) (Count q) h k = absurd (let e = sym h.1 ∙ first_same ∙ k.0 in cc)
-  one_in (Count p) (Name q) h k = absurd (let e = sym h.0 ∙ first_same ∙ k.1 in cc)
-  one_in (Count p) (Typing q) h k = absurd (let e = sym h.0 ∙ first_same ∙ k.1 in cc)
-  one_in (Count p) (Count q) h k =
+  one_in : (e f : CheckFault) → IsTold e → IsTold f → IsFaultIn t raw e → IsFaultIn u raw f → e ≡ f
+  one_in NoMemory f x y h k = absurd x
+  one_in (Name p) NoMemory x y h k = absurd y
+  one_in (Typing p) NoMemory x y h k = absurd y
+  one_in (Count p) NoMemory x y h k = absurd y
+  one_in (Name p) (Name q) a_told b_told h k = ap Name (at_first h.0 k.0 p q h.1 k.1 h.2.1 k.2.1).1
+  one_in (Name p) (Typing q) a_told b_told h k = absurd (let e = (at_first h.0 k.0 p q h.1 k.1 h.2.1 k.2.1).0 in let x = h.2.0 in let y = k.2.0 in cc)
+  one_in (Name p) (Count q) a_told b_told h k = absurd (let e = sym h.1 ∙ first_same ∙ k.0 in cc)
+  one_in (Typing p) (Name q) a_told b_told h k = absurd (let e = (at_first h.0 k.0 p q h.1 k.1 h.2.1 k.2.1).0 in let x = h.2.0 in let y = k.2.0 in cc)
+  one_in (Typing p) (Typing q) a_told b_told h k = ap Typing (at_first h.0 k.0 p q h.1 k.1 h.2.1 k.2.1).1
+  one_in (Typing p) (Count q) a_told b_told h k = absurd (let e = sym h.1 ∙ first_same ∙ k.0 in cc)
+  one_in (Count p) (Name q) a_told b_told h k = absurd (let e = sym h.0 ∙ first_same ∙ k.1 in cc)
+  one_in (Count p) (Typing q) a_told b_told h k = absurd (let e = sym h.0 ∙ first_same ∙ k.1 in cc)
+  one_in (Count p) (Count q) a_told b_told h k =
       let e = sym h.2 ∙ ap (λ (s : FileScope). s.env.over) scope_same ∙ k.2 in
       let both : h.1 ≡ k.1 = cc in
       ap Count (same_position t.source.now u.source.now h.1 k.1 p q same.source both h.3 k.3)
@@ -125,20 +120,20 @@ tree_in source tokens raw t u a b x y h k =
 
 -- ---- of a source
 
-pub one_fault : (source : List ℕ) (tokens : List Token) (raw : Raw) (e f : CheckFault) → IsFault source tokens raw e → IsFault source tokens raw f → IsSame e f
-one_fault source tokens raw NoMemory f h k = tt
-one_fault source tokens raw (Name p) NoMemory h k = tt
-one_fault source tokens raw (Typing p) NoMemory h k = tt
-one_fault source tokens raw (Count p) NoMemory h k = tt
-one_fault source tokens raw (Name p) (Name q) h k = one_in source tokens raw h.0 k.0 h.1 k.1 (Name p) (Name q) h.2 k.2
-one_fault source tokens raw (Name p) (Typing q) h k = one_in source tokens raw h.0 k.0 h.1 k.1 (Name p) (Typing q) h.2 k.2
-one_fault source tokens raw (Name p) (Count q) h k = one_in source tokens raw h.0 k.0 h.1 k.1 (Name p) (Count q) h.2 k.2
-one_fault source tokens raw (Typing p) (Name q) h k = one_in source tokens raw h.0 k.0 h.1 k.1 (Typing p) (Name q) h.2 k.2
-one_fault source tokens raw (Typing p) (Typing q) h k = one_in source tokens raw h.0 k.0 h.1 k.1 (Typing p) (Typing q) h.2 k.2
-one_fault source tokens raw (Typing p) (Count q) h k = one_in source tokens raw h.0 k.0 h.1 k.1 (Typing p) (Count q) h.2 k.2
-one_fault source tokens raw (Count p) (Name q) h k = one_in source tokens raw h.0 k.0 h.1 k.1 (Count p) (Name q) h.2 k.2
-one_fault source tokens raw (Count p) (Typing q) h k = one_in source tokens raw h.0 k.0 h.1 k.1 (Count p) (Typing q) h.2 k.2
-one_fault source tokens raw (Count p) (Count q) h k = one_in source tokens raw h.0 k.0 h.1 k.1 (Count p) (Count q) h.2 k.2
+pub one_fault : (source : List ℕ) (tokens : List Token) (raw : Raw) (e f : CheckFault) → IsTold e → IsTold f → IsFault source tokens raw e → IsFault source tokens raw f → e ≡ f
+one_fault source tokens raw NoMemory f x y h k = absurd x
+one_fault source tokens raw (Name p) NoMemory x y h k = absurd y
+one_fault source tokens raw (Typing p) NoMemory x y h k = absurd y
+one_fault source tokens raw (Count p) NoMemory x y h k = absurd y
+one_fault source tokens raw (Name p) (Name q) x y h k = one_in source tokens raw h.0 k.0 h.1 k.1 (Name p) (Name q) x y h.2 k.2
+one_fault source tokens raw (Name p) (Typing q) x y h k = one_in source tokens raw h.0 k.0 h.1 k.1 (Name p) (Typing q) x y h.2 k.2
+one_fault source tokens raw (Name p) (Count q) x y h k = one_in source tokens raw h.0 k.0 h.1 k.1 (Name p) (Count q) x y h.2 k.2
+one_fault source tokens raw (Typing p) (Name q) x y h k = one_in source tokens raw h.0 k.0 h.1 k.1 (Typing p) (Name q) x y h.2 k.2
+one_fault source tokens raw (Typing p) (Typing q) x y h k = one_in source tokens raw h.0 k.0 h.1 k.1 (Typing p) (Typing q) x y h.2 k.2
+one_fault source tokens raw (Typing p) (Count q) x y h k = one_in source tokens raw h.0 k.0 h.1 k.1 (Typing p) (Count q) x y h.2 k.2
+one_fault source tokens raw (Count p) (Name q) x y h k = one_in source tokens raw h.0 k.0 h.1 k.1 (Count p) (Name q) x y h.2 k.2
+one_fault source tokens raw (Count p) (Typing q) x y h k = one_in source tokens raw h.0 k.0 h.1 k.1 (Count p) (Typing q) x y h.2 k.2
+one_fault source tokens raw (Count p) (Count q) x y h k = one_in source tokens raw h.0 k.0 h.1 k.1 (Count p) (Count q) x y h.2 k.2
 
 pub no_fault : (source : List ℕ) (tokens : List Token) (raw : Raw) (tree : Tree) (f : CheckFault) → IsTree source tokens raw tree → IsFault source tokens raw f → f ≡ NoMemory
 no_fault source tokens raw tree NoMemory h k = refl

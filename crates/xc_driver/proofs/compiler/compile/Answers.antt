@@ -1,12 +1,18 @@
-use Rattle.std.proofs.Common.{◌≡◌, sym, ◌∙◌, subst}
-use Rattle.xc_driver.specs.Compiles as spec
+use Rattle.std.proofs.lemmas.Result.{IfErr-weaker}
+use Rattle.xc_driver.proofs.OneAnswer.{built_only, refused_only, refused_complete, complete}
 use Rattle.xc_driver.proofs.compiler.compile.Goals as goal
 
-pub returns-in-Some-clause-refused : goal.returns-in-Some-clause-refused
-returns-in-Some-clause-refused c = subst (spec.IsRefused c.args.source.now) (sym c.refused.ensures) (
-  c.in_ok-tree.tree,
-  c.in_ok-tree.ensures.tree,
-  c.in-Some.at,
-  (sym c.unbuilt.ensures ∙ c.in-Some.is),
-  record { line = c.position-pos.ensures.line; column = c.position-pos.ensures.column },
-)
+pub returns-in-Ok-clause-only_tree : goal.returns-in-Ok-clause-only_tree
+returns-in-Ok-clause-only_tree c = built_only c.args.source.now c.compile_tree.result c.compile_tree.ensures.compiled c.compile_tree.ensures.built
+
+pub returns-in-Ok-clause-only_refusal : goal.returns-in-Ok-clause-only_refusal
+returns-in-Ok-clause-only_refusal c = IfErr-weaker c.compile_tree.result _ _ (refused_only c.args.source.now) c.compile_tree.ensures.refused
+
+pub returns-in-Ok-clause-complete : goal.returns-in-Ok-clause-complete
+returns-in-Ok-clause-complete c = complete c.args.source.now c.compile_tree.result c.compile_tree.ensures.compiled c.compile_tree.ensures.built c.compile_tree.ensures.refused
+
+pub returns-in-Err-clause-only_refusal : goal.returns-in-Err-clause-only_refusal
+returns-in-Err-clause-only_refusal c = refused_only c.args.source.now c.in-Err.fault c.in-Err.ensures.refused
+
+pub returns-in-Err-clause-complete : goal.returns-in-Err-clause-complete
+returns-in-Err-clause-complete c = refused_complete c.args.source.now c.in-Err.fault c.in-Err.ensures.refused
