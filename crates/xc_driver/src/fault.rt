@@ -4,10 +4,11 @@ ghost use Rattle.std.specs.Prelude.{◌≡◌};
 ghost use Rattle.xc_driver.specs.declared.fault.CompileFault.TheVariants.{NoMemory};
 
 use std::alloc::AllocError;
+use thiserror::Error;
 use xc_text_place::Pos;
 
 /// The kinds of refusals, in the order in which they are asked.
-#[derive(Clone, Copy, PartialEq, Eq)]
+#[derive(Clone, Copy, Debug, PartialEq, Eq)]
 pub enum RefusalKind {
     /// The text has no tokens.
     Lex,
@@ -26,16 +27,18 @@ pub enum RefusalKind {
 }
 
 /// A refusal with its place.
-#[derive(Clone, Copy)]
+#[derive(Clone, Copy, Debug)]
 pub struct Refusal {
     pub kind: RefusalKind,
     pub at: Pos,
 }
 
 /// Why a source has no code.
-#[derive(Clone, Copy)]
+#[derive(Clone, Copy, Debug, Error)]
 pub enum CompileFault {
+    #[error("no memory")]
     NoMemory,
+    #[error("refused at line {line}, column {col}", line = .0.at.line, col = .0.at.col)]
     Refused(Refusal),
 }
 

@@ -1,8 +1,9 @@
 -- What a part of a thread does, where the world answers its requests: its actions, and how the world is then.
-use Rattle.std.proofs.Common.{◌≡◌, ℕ, suc, ◌+◌, List, [], ◌∷◌, ◌++◌, refl, sym, ap, ◌∙◌, subst, arith, append_assoc, cond}
+use Rattle.std.proofs.Common.{◌≡◌, ℕ, suc, ◌+◌, ◌^◌, ◌<◌, List, [], ◌∷◌, ◌++◌, refl, sym, ap, ◌∙◌, subst, arith, append_assoc, cond}
 use Rattle.xc_meaning_world.proofs.Puts.{eqb_other}
 use Rattle.xc_meaning_world.specs.World.{World, Request, On, Print, Begin, Stop, Tick, Reply, Dead, Action, act_of}
-use Rattle.xc_meaning_world.specs.Runs.{part_of, Allows, Applies, HasTrapped, ticks_in, ticks}
+use Rattle.xc_meaning_world.specs.Runs.{part_of, Allows, IsVacant, Applies, HasTrapped, ticks_in, ticks}
+use Rattle.xc_meaning_world.proofs.Numbers.{any_in}
 use Rattle.xc_meaning.specs.Meaning.{Point, point, Value, Gives, Traps, then_value}
 use Rattle.xc_meaning.specs.Source.{reply_and, replies_of}
 
@@ -74,9 +75,9 @@ module _ (n : ℕ) where
   chain_on [] bs u v w f g = subst (λ x. Chain x bs w) (sym f) g
   chain_on (a ∷ l) bs u v w f g = (f.0, f.1, f.2, chain_on l bs f.1 v w f.3 g)
 
-  pub chain_applies : (l : List Action) (u w : World) → Chain u l w → Applies n u (mine l) w
-  chain_applies [] u w f = f
-  chain_applies (a ∷ l) u w f = (suc n, omega arith, f.0, f.1, f.2, chain_applies l f.1 w f.3)
+  pub chain_applies : suc n < 2 ^ 32 → (l : List Action) (u w : World) → Chain u l w → Applies n u (mine l) w
+  chain_applies few [] u w f = f
+  chain_applies few (a ∷ l) u w f = (suc n, any_in (IsVacant n u.segs) a.request (suc n) (omega arith, few, f.0), f.1, f.2, chain_applies few l f.1 w f.3)
 
   -- it comes to the value v
   pub record Given (m : Point → Value) (w : World) (v : ℕ) (w' : World) : Type 0 where

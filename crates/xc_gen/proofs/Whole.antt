@@ -270,7 +270,7 @@ module _ (p : Program) (c : Code) (tr : Translated p c) where
 
   source_run : (acts : List Action) (w : World) → Chain n w0 acts w → IsTrace p acts → SourceRun p (mine acts) w
   source_run acts w chain t = record {
-    applies = chain_applies n acts w0 w chain;
+    applies = chain_applies n (omega (arith, tr.few)) acts w0 w chain;
     trace = subst (IsTrace p) (sym (part_mine acts)) t;
     only = λ s. part_others s acts;
   }

@@ -32,7 +32,7 @@ pub record NoStuck (c : Code) : Type 0 where
 
 -- ---- bounds
 
--- the size of a term: at most the number of tokens of its expression
+-- the size of a term: each part counts one, but a plain assignment and `?:` two, and a `printf` four and one for each argument
 abbrev mutual
   pub size_of : Term → ℕ
   size_of (Number n) = 1

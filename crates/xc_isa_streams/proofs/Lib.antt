@@ -6,6 +6,7 @@ pub mod Standing
 pub mod Cores
 pub mod Steps
 pub mod Projected
+pub mod WordsOf
 pub mod WaitsShown
 pub mod Finishes
 pub mod Stand

@@ -2,9 +2,10 @@
 use Rattle.std.proofs.Common.{◌≡◌, ◌⊎◌, ℕ, zero, suc, ◌+◌, ◌<◌, ◌≤◌, List, [], ◌∷◌, ◌++◌, length, Some, None, Bool, true, false, cond, refl, sym, ap, ◌∙◌, subst, arith, inl, inr, ⊎_elim, append-nil, append_assoc, length-append}
 use Rattle.std.specs.Prelude.{slice_get, ◌==◌}
 use Rattle.std.proofs.lemmas.Bool.{eqb-true, eqb-false}
-use Rattle.xc_meaning_world.specs.World.{Touch, Reach, New, Free, On, Print, Begin, Stop, Tick, Reply}
-use Rattle.xc_meaning_world.specs.Runs.{part_of}
-use Rattle.xc_isa_streams.specs.Parts.{Ask, Of, Side, Act, act, Parts, AllowsIn, up_touch, up, Serves, Makes, SideMakes, Made, SideMade, begun, begun_in, InTurn}
+use Rattle.xc_meaning_world.specs.World.{Touch, Reach, New, Free, On, Print, Begin, Stop, Tick, Reply, Got}
+use Rattle.xc_meaning_world.specs.Runs.{part_of, NewIn}
+use Rattle.xc_meaning_world.proofs.Numbers.{new_in}
+use Rattle.xc_isa_streams.specs.Parts.{Ask, Of, Side, Act, act, Parts, AllowsIn, request_of, IsAbove, up_touch, up, Serves, Alive, Makes, SideMakes, Made, SideMade, begun, begun_in, InTurn}
 
 pub get_left : {X : Type 0} (xs ys : List X) (i : ℕ) (x : X) → slice_get xs i ≡ Some x → slice_get (xs ++ ys) i ≡ Some x
 get_left [] ys i x h = cc
@@ -83,6 +84,10 @@ pub begun_more : (l : List (ℕ × Act)) (i : ℕ) (k : Ask) (a : Reply) → beg
 begun_more [] i k a = append-nil (begun k a)
 begun_more ((j, b) ∷ l) i k a = ap (λ u. begun b.ask b.reply ++ u) (begun_more l i k a) ∙ sym (append_assoc (begun b.ask b.reply) (begun_in l) (begun k a))
 
+pub alive_more : (l : List (ℕ × Act)) (i : ℕ) (k : Ask) (v : ℕ) → Alive l → Alive (l ++ (i, act k (Got v)) ∷ [])
+alive_more [] i k v h = (tt, tt)
+alive_more ((j, b) ∷ l) i k v h = (h.0, alive_more l i k v h.1)
+
 pub in_turn_more : (l : List (ℕ × Act)) (n i : ℕ) (k : Ask) (a : Reply) → InTurn n l → i < n + length (begun_in l) → InTurn n (l ++ (i, act k a) ∷ [])
 in_turn_more [] n i k a h lt = (omega arith, tt)
 in_turn_more ((j, b) ∷ l) n i k a h lt =
@@ -90,7 +95,8 @@ in_turn_more ((j, b) ∷ l) n i k a h lt =
 
 up_touch_more : (x : Touch) (m n num : ℕ) → m ≤ n → up_touch x m num ≤ up_touch x n num
 up_touch_more (Reach y) m n num le = le
-up_touch_more (New c) m n num le = omega arith
+up_touch_more (New zero) m n num le = le
+up_touch_more (New (suc c)) m n num le = omega arith
 up_touch_more (Free g) m n num le = le
 
 up_more : (k : Ask) (m n num : ℕ) → m ≤ n → up k m num ≤ up k n num
@@ -101,8 +107,8 @@ up_more (Of Stop) m n num le = le
 up_more (Of Tick) m n num le = le
 up_more (Side x) m n num le = up_touch_more x m n num le
 
-pub serves_more : (p0 p p' : Parts) (n0 n num i : ℕ) (k : Ask) (a : Reply) (l : List (ℕ × Act)) → Serves p0 n0 l p n → n < num → AllowsIn k a num p p' → Serves p0 n0 (l ++ (i, act k a) ∷ []) p' (up k n num)
-serves_more p0 p p' n0 n num i k a [] h lt e = (num, omega (arith, h.1), p', subst (λ u. AllowsIn k a num u p') (sym h.0) e, (refl, up_more k n0 n num h.1))
+pub serves_more : (p0 p p' : Parts) (n0 n num i : ℕ) (k : Ask) (a : Reply) (l : List (ℕ × Act)) → Serves p0 n0 l p n → NewIn (IsAbove n) (request_of k) num → AllowsIn k a num p p' → Serves p0 n0 (l ++ (i, act k a) ∷ []) p' (up k n num)
+serves_more p0 p p' n0 n num i k a [] h lt e = (num, new_in (IsAbove n) (IsAbove n0) (request_of k) num lt (λ z. (omega (arith, h.1, z.0), z.1)), p', subst (λ u. AllowsIn k a num u p') (sym h.0) e, (refl, up_more k n0 n num h.1))
 serves_more p0 p p' n0 n num i k a ((j, b) ∷ l) h lt e = (h.0, h.1, h.2, h.3, serves_more h.2 p p' (up b.ask n0 h.0) n num i k a l h.4 lt e)
 
 pub serves_up : (p0 p : Parts) (n0 n n' : ℕ) (l : List (ℕ × Act)) → Serves p0 n0 l p n → n ≤ n' → Serves p0 n0 l p n'

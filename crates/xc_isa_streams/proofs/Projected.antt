@@ -1,23 +1,25 @@
 -- Every run of the machine stands for actions of its threads.
-use Rattle.std.proofs.Common.{◌≡◌, ◌≤◌, ◌+◌, ℕ, zero, suc, ◌<◌, List, [], ◌∷◌, length, Option, Some, None, refl, sym, ap, ◌∙◌, subst, arith, inl, ⊎_elim}
+use Rattle.std.proofs.Common.{◌≡◌, ◌≤◌, ◌+◌, ℕ, zero, suc, ◌<◌, List, [], ◌∷◌, ◌++◌, length, Option, Some, None, refl, sym, ap, ◌∙◌, subst, arith, inl, ⊎_elim, append-nil, append_assoc}
 use mathlib.Core.Path.{fun_ext}
 use Rattle.std.specs.Prelude.{slice_get, replicate, map, unwrap_or}
 use Rattle.std.proofs.lemmas.Option.{slice_get_past}
 use Rattle.std.proofs.lemmas.List.{length-map}
 use Rattle.xc_word.specs.declared.memory.Cell.{Cell}
-use Rattle.xc_meaning_world.specs.World.{World, put, segs_of, world_of}
+use Rattle.xc_meaning_world.specs.World.{World, Got, Dead, put, segs_of, world_of}
 use Rattle.xc_meaning_world.proofs.Puts.{put_same}
 use Rattle.xc_isa.specs.declared.code.Code.{Code}
 use Rattle.xc_isa.specs.Texts.{cells_of}
 use Rattle.xc_isa.specs.Effects.{Regs, effect}
 use Rattle.xc_isa.specs.Machine as machine
 use Rattle.xc_isa.specs.Machine.{Slot, Empty, Live, State, After, in_slot, step, start}
+use Rattle.xc_isa.specs.Runs as ran
 use Rattle.xc_isa.specs.Runs.{Ran, onward, run}
 use Rattle.xc_isa_streams.specs.Class.{Class}
-use Rattle.xc_isa_streams.specs.Promises.{globals_of, first_parts, AlwaysOwn, AlwaysFair, view, parted, own_view, Seats, Core, Stage, Stood, Fallen}
+use Rattle.xc_isa_streams.specs.Parts.{Act, act}
+use Rattle.xc_isa_streams.specs.Promises.{globals_of, first_parts, AlwaysOwn, AlwaysFair, view, parted, own_view, Seats, Core, Stage, Stood, Fallen, Moves, goes, quits, acts, StepsTo, StoodOn}
 use Rattle.xc_isa_streams.proofs.Views.{view_mine, view_none}
 use Rattle.xc_isa_streams.proofs.Cores.{core_new}
-use Rattle.xc_isa_streams.proofs.Steps.{Reached, takes_inv}
+use Rattle.xc_isa_streams.proofs.Steps.{takes_inv}
 
 all_free : (n s pc : ℕ) (r : Regs) → slice_get (replicate n Empty) s ≡ Some (Live pc r) → ⊥
 all_free zero s pc r h = cc
@@ -69,8 +71,8 @@ module _ (of : ℕ → Class) (code : Code) where
   first_high : (g : ℕ) → globals_of code < g → first_world.segs g ≡ []
   first_high g lt = globals_high (map cells_of code.globals) g (omega (arith, lt, length-map code.globals cells_of))
 
-  first_stage : (n : ℕ) → Stage of code (Live 0 (put (λ x. 0) 1 0) ∷ replicate n Empty) first_world (globals_of code) 0
-  first_stage n = record {
+  abbrev unread_stage : (n : ℕ) → Stage of code (Live 0 (put (λ x. 0) 1 0) ∷ replicate n Empty) first_world (globals_of code) 0
+  unread_stage n = record {
     l = [];
     names = λ s. s;
     acts = Live 0 (put (λ x. 0) 1 0) ∷ [];
@@ -79,6 +81,7 @@ module _ (of : ℕ → Class) (code : Code) where
     seats = first_seats n;
     core = first_core;
     in_turn = tt;
+    alive = tt;
     serves = (first_is, omega arith);
     known = λ g h. (refl, ⊎_elim (λ le. le) (λ no. absurd no) h);
     sides = λ g h. absurd h;
@@ -90,31 +93,56 @@ module _ (of : ℕ → Class) (code : Code) where
   }
 
   -- the machine starts with all registers 0
-  start_stage : (n : ℕ) → Stage of code (start code (suc n)).slots (start code (suc n)).world (start code (suc n)).last 0
-  start_stage n = subst (λ r. Stage of code (Live 0 r ∷ replicate n Empty) first_world (globals_of code) 0) (put_same (λ x. 0) 1 0 refl) (first_stage n)
+  pub first_stage : (n : ℕ) → 1 ≤ n → (g : Stage of code (start code n).slots (start code n).world (start code n).last 0) × (g.l ≡ [])
+  first_stage zero one = absurd (omega arith)
+  first_stage (suc n) one = subst (λ r. (g : Stage of code (Live 0 r ∷ replicate n Empty) first_world (globals_of code) 0) × (g.l ≡ [])) (put_same (λ x. 0) 1 0 refl) (unread_stage n, refl)
+
+  -- ---- a list that goes on another one
+
+  grown : (slots slots' : List Slot) (s i : ℕ) (l l' : List (ℕ × Act)) → Moves slots slots' s i l l' → (t : List (ℕ × Act)) × (l' ≡ l ++ t)
+  grown slots slots' s i l l' (goes e f) = ([], e ∙ sym (append-nil l))
+  grown slots slots' s i l l' (quits e f q) = ([], e ∙ sym (append-nil l))
+  grown slots slots' s i l l' (acts k v e a f) = ((i, act k (Got v)) ∷ [], e)
+
+  stood_under : (l l' t : List (ℕ × Act)) (made : ℕ) (x : Ran) → l' ≡ l ++ t → StoodOn of code l' made x → StoodOn of code l made x
+  stood_under l l' t made (ran.At st) e h = (h.0, t ++ h.1, h.2 ∙ ap (λ u. u ++ h.1) e ∙ append_assoc l t h.1)
+  stood_under l l' t made (ran.Trap kind) e h = (h.0, t ++ h.1, h.2 ∙ ap (λ u. u ++ h.1) e ∙ append_assoc l t h.1)
+  stood_under l l' t made ran.NoRun e h = tt
+
+  stood_of : (l : List (ℕ × Act)) (made : ℕ) (x : Ran) → StoodOn of code l made x → Stood of code made x
+  stood_of l made (ran.At st) h = h.0
+  stood_of l made (ran.Trap kind) h = h.0
+  stood_of l made ran.NoRun h = tt
+
+  after_step : (slots : List Slot) (w : World) (last made : ℕ) (g : Stage of code slots w last made) (s : ℕ) (ss : List ℕ) (x : After) (go : State → Ran) → StepsTo of code slots w last made g s x → ((st : State) (g : Stage of code st.slots st.world st.last (suc made)) → StoodOn of code g.l (length ss + suc made) (go st)) → StoodOn of code g.l (length ss + suc made) (onward x ss go)
+  after_step slots w last made g s ss (machine.At st) go h next =
+      let t = grown slots st.slots s (g.names s) g.l h.stage.l h.moves in
+      stood_under g.l h.stage.l t.0 (length ss + suc made) (go st) t.1 (next st h.stage)
+  after_step slots w last made g s [] (machine.Trap kind) go h next =
+      let n : suc made ≡ 0 + suc made = omega arith in
+      subst (λ n. (f : Fallen of code n) × (t : List (ℕ × Act)) × (f.l ≡ g.l ++ t)) n (h.fallen, (g.names s, act h.ask Dead) ∷ [], h.more)
+  after_step slots w last made g s (s' ∷ ss) (machine.Trap kind) go h next = tt
+  after_step slots w last made g s ss machine.Waits go h next = tt
+  after_step slots w last made g s ss machine.Spent go h next = tt
 
   module _ (always : AlwaysOwn of code) (fair : AlwaysFair of code) where
-    slot_inv : (s : ℕ) (slots : List Slot) (w : World) (last made : ℕ) → Stage of code slots w last made → (o : Option Slot) → slice_get slots s ≡ o → Reached of code always fair (suc made) (in_slot code o s slots w last)
+    slot_inv : (s : ℕ) (slots : List Slot) (w : World) (last made : ℕ) (g : Stage of code slots w last made) (o : Option Slot) → slice_get slots s ≡ o → StepsTo of code slots w last made g s (in_slot code o s slots w last)
     slot_inv s slots w last made g None here = tt
     slot_inv s slots w last made g (Some Empty) here = tt
     slot_inv s slots w last made g (Some (Live pc r)) here = takes_inv of code always fair s pc r slots w last made g here (effect code.formats (slice_get code.instrs pc) pc r) refl
 
-    after_step : (ss : List ℕ) (made : ℕ) (x : After) (go : State → Ran) → Reached of code always fair made x → ((st : State) → Stage of code st.slots st.world st.last made → Stood of code (length ss + made) (go st)) → Stood of code (length ss + made) (onward x ss go)
-    after_step ss made (machine.At st) go h next = next st h
-    after_step [] made (machine.Trap kind) go h next = let n : made ≡ 0 + made = omega arith in subst (λ n. Fallen of code n) n h
-    after_step (s ∷ ss) made (machine.Trap kind) go h next = tt
-    after_step ss made machine.Waits go h next = tt
-    after_step ss made machine.Spent go h next = tt
+    pub steps_to : (st : State) (made : ℕ) (g : Stage of code st.slots st.world st.last made) (s : ℕ) → StepsTo of code st.slots st.world st.last made g s (step code s st)
+    steps_to st made g s = slot_inv s st.slots st.world st.last made g (slice_get st.slots s) refl
 
-    run_inv : (ss : List ℕ) (st : State) (made : ℕ) → Stage of code st.slots st.world st.last made → Stood of code (length ss + made) (run code ss st)
-    run_inv [] st made g = let n : made ≡ 0 + made = omega arith in subst (λ n. Stage of code st.slots st.world st.last n) n g
-    run_inv (s ∷ ss) st made g =
+    pub onward_from : (st : State) (made : ℕ) (g : Stage of code st.slots st.world st.last made) (ss : List ℕ) → StoodOn of code g.l (length ss + made) (run code ss st)
+    onward_from st made g [] = let n : made ≡ 0 + made = omega arith in subst (λ n. (h : Stage of code st.slots st.world st.last n) × (t : List (ℕ × Act)) × (h.l ≡ g.l ++ t)) n (g, [], sym (append-nil g.l))
+    onward_from st made g (s ∷ ss) =
         let n : length ss + suc made ≡ suc (length ss) + made = omega arith in
-        subst (λ n. Stood of code n (run code (s ∷ ss) st)) n
-        (after_step ss (suc made) (step code s st) (run code ss) (slot_inv s st.slots st.world st.last made g (slice_get st.slots s) refl) (λ st g. run_inv ss st (suc made) g))
+        subst (λ n. StoodOn of code g.l n (run code (s ∷ ss) st)) n
+        (after_step st.slots st.world st.last made g s ss (step code s st) (run code ss) (steps_to st made g s) (λ st g. onward_from st (suc made) g ss))
 
     pub projected : (n : ℕ) → 1 ≤ n → (ss : List ℕ) → Stood of code (length ss) (run code ss (start code n))
-    projected zero one ss = absurd (omega arith)
-    projected (suc n) one ss =
+    projected n one ss =
         let k : length ss + 0 ≡ length ss = omega arith in
-        subst (λ k. Stood of code k (run code ss (start code (suc n)))) k (run_inv ss (start code (suc n)) 0 (start_stage n))
+        let g = first_stage n one in
+        subst (λ k. Stood of code k (run code ss (start code n))) k (stood_of g.0.l (length ss + 0) (run code ss (start code n)) (onward_from (start code n) 0 g.0 ss))

@@ -1,5 +1,5 @@
 -- Who sits in the slots, when a stream changes and when one starts.
-use Rattle.std.proofs.Common.{◌≡◌, ℕ, suc, ◌<◌, List, [], ◌∷◌, ◌++◌, length, Option, Some, None, refl, sym, ap, ◌∙◌, subst, arith, ⊎_elim}
+use Rattle.std.proofs.Common.{◌≡◌, ℕ, zero, suc, ◌+◌, ◌<◌, List, [], ◌∷◌, ◌++◌, length, Option, Some, None, refl, sym, ap, ◌∙◌, subst, arith, ⊎_elim}
 use Rattle.std.specs.Prelude.{slice_get, slice_set}
 use Rattle.std.specs.Option.{option_map}
 use Rattle.std.proofs.lemmas.Option.{slice_get_within}
@@ -7,8 +7,12 @@ use Rattle.xc_meaning_world.specs.World.{put}
 use Rattle.xc_meaning_world.proofs.Puts.{by_same, put_at, put_other, get_set_same, get_set_other}
 use Rattle.xc_isa.specs.Effects.{Regs}
 use Rattle.xc_isa.specs.Machine.{Slot, Empty, Live, free_slot}
-use Rattle.xc_isa_streams.specs.Promises.{Seats}
+use Rattle.xc_isa_streams.specs.Promises.{Seats, frees, answer}
 use Rattle.xc_isa_streams.proofs.Lists.{get_left, get_last, get_cases}
+
+abbrev pub answer_of : Option ℕ → ℕ
+answer_of None = 0
+answer_of (Some f) = 1
 
 -- the lowest free slot is free
 pub free_is : (xs : List Slot) (f : ℕ) → free_slot xs ≡ Some f → slice_get xs f ≡ Some Empty
@@ -19,6 +23,41 @@ free_is (Live pc r ∷ xs) f h = at (λ n e. free_is xs n e) (free_slot xs) refl
     at : ((n : ℕ) → free_slot xs ≡ Some n → slice_get xs n ≡ Some Empty) → (o : Option ℕ) → free_slot xs ≡ o → option_map suc o ≡ Some f → slice_get (Live pc r ∷ xs) f ≡ Some Empty
     at more None e h = cc
     at more (Some n) e h = let s : suc n ≡ f = cc in subst (λ n. slice_get (Live pc r ∷ xs) n ≡ Some Empty) s (more n e)
+
+-- where none is free, none is counted, and else one at least
+pub frees_as : (xs : List Slot) (o : Option ℕ) → free_slot xs ≡ o → answer (frees xs) ≡ answer_of o
+frees_as [] None h = refl
+frees_as [] (Some f) h = cc
+frees_as (Empty ∷ xs) None h = cc
+frees_as (Empty ∷ xs) (Some f) h = refl
+frees_as (Live pc r ∷ xs) o h = at (λ p e. frees_as xs p e) (free_slot xs) refl o h
+  where
+    at : ((p : Option ℕ) → free_slot xs ≡ p → answer (frees xs) ≡ answer_of p) → (p : Option ℕ) → free_slot xs ≡ p → (o : Option ℕ) → option_map suc p ≡ o → answer (frees xs) ≡ answer_of o
+    at more None e None h = more None e
+    at more None e (Some f) h = cc
+    at more (Some n) e None h = cc
+    at more (Some n) e (Some f) h = more (Some n) e
+
+pub frees_live : (xs : List Slot) (s pc pc' : ℕ) (r r' : Regs) → slice_get xs s ≡ Some (Live pc r) → frees (slice_set xs s (Live pc' r')) ≡ frees xs
+frees_live [] s pc pc' r r' h = cc
+frees_live (Empty ∷ xs) zero pc pc' r r' h = cc
+frees_live (Live q u ∷ xs) zero pc pc' r r' h = refl
+frees_live (Empty ∷ xs) (suc s) pc pc' r r' h = ap suc (frees_live xs s pc pc' r r' h)
+frees_live (Live q u ∷ xs) (suc s) pc pc' r r' h = frees_live xs s pc pc' r r' h
+
+pub frees_quit : (xs : List Slot) (s pc : ℕ) (r : Regs) → slice_get xs s ≡ Some (Live pc r) → frees (slice_set xs s Empty) ≡ suc (frees xs)
+frees_quit [] s pc r h = cc
+frees_quit (Empty ∷ xs) zero pc r h = cc
+frees_quit (Live q u ∷ xs) zero pc r h = refl
+frees_quit (Empty ∷ xs) (suc s) pc r h = ap suc (frees_quit xs s pc r h)
+frees_quit (Live q u ∷ xs) (suc s) pc r h = frees_quit xs s pc r h
+
+pub frees_start : (xs : List Slot) (s pc : ℕ) (r : Regs) → slice_get xs s ≡ Some Empty → frees (slice_set xs s (Live pc r)) + 1 ≡ frees xs
+frees_start [] s pc r h = cc
+frees_start (Empty ∷ xs) zero pc r h = omega arith
+frees_start (Live q u ∷ xs) zero pc r h = cc
+frees_start (Empty ∷ xs) (suc s) pc r h = let e = frees_start xs s pc r h in omega (arith, e)
+frees_start (Live q u ∷ xs) (suc s) pc r h = frees_start xs s pc r h
 
 module _ (slots : List Slot) (names : ℕ → ℕ) (acts : List Slot) (seats : Seats slots names acts) where
   module _ (i pc : ℕ) (r : Regs) (x : Slot) (here : slice_get slots i ≡ Some (Live pc r)) where

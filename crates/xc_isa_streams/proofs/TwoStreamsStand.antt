@@ -16,7 +16,7 @@ use Rattle.xc_isa.proofs.Follows.{at_base, reaches_base, frees_base}
 use Rattle.xc_isa_streams.specs.Class.{Source, Private, in_place}
 use Rattle.xc_isa_streams.specs.Parts.{Ask, Of, Side, Act, act, FairTouch, Fair}
 use Rattle.xc_isa_streams.specs.Local.{End, Ended, Fault, Short, Going, Bad, Own, own_of, hid, does, local, local_from, end_trace, replies_of}
-use Rattle.xc_isa_streams.specs.Promises.{globals_of, CanStart, NeverBad, AlwaysFair, RunsStand}
+use Rattle.xc_isa_streams.specs.Promises.{globals_of, CanStart, NeverBad, AsksNext, AlwaysFair, RunsStand}
 use Rattle.xc_isa_streams.proofs.Stand.{stand, never_bad_owns}
 use Rattle.xc_isa_streams.specs.TwoStreams.{by_frame, two_streams_code}
 
@@ -178,12 +178,15 @@ module _ (code : Code) (instrs : code.instrs ≡ two_streams_code) (globals : gl
   fair_of l (Of Tick) p = tt
   fair_of l (Side x) p = absurd p
 
+  fair_next : (l : List (ℕ × Act)) (k : Ask) → AsksNext by_frame code l k → Fair (globals_of code) l k
+  fair_next l k h =
+      let starts = (h.shown.each h.a h.at h.arg h.thread).0 in
+      let rs = replies_of (part_of h.a l ++ act k Dead ∷ []) in
+      let plain = good_trace (local_from by_frame code (h.m + 0) h.at h.arg h.shows.num rs) (good (h.m + 0) h.at h.arg h.shows.num rs starts) in
+      fair_of l k (plain_last (part_of h.a l) k Dead (subst ArePlain (h.shows.by 0) plain))
+
   pub always_fair : AlwaysFair by_frame code
-  always_fair l steps p n a at arg m k serves shown here shows =
-      let starts = (shown.each a at arg here).0 in
-      let rs = replies_of (part_of a l ++ act k Dead ∷ []) in
-      let plain = good_trace (local_from by_frame code (m + 0) at arg shows.num rs) (good (m + 0) at arg shows.num rs starts) in
-      fair_of l k (plain_last (part_of a l) k Dead (subst ArePlain (shows.by 0) plain))
+  always_fair = record { source = λ l q h. fair_next l (Of q) h; side = λ l x h. fair_next l (Side x) h }
 
 pub two_stand : (code : Code) → code.instrs ≡ two_streams_code → globals_of code ≡ 1 → RunsStand by_frame code
 two_stand code instrs globals = stand by_frame code (never_bad_owns by_frame code (never_bad code instrs globals)) (always_fair code instrs globals)

@@ -8,7 +8,7 @@ use Rattle.xc_meaning_world.specs.World.{Segs, World, Touch, Reach, New, Free, R
 use Rattle.xc_meaning_world.specs.Runs.{Allows}
 use Rattle.xc_meaning_world.proofs.Puts.{by_same, eqb_same, eqb_other, put_at, put_other}
 use Rattle.xc_isa.specs.Machine.{last_of_touch, last_after}
-use Rattle.xc_isa_streams.specs.Parts.{Ask, Of, Side, AllowsIn}
+use Rattle.xc_isa_streams.specs.Parts.{Ask, Of, Side, AllowsIn, request_of}
 use Rattle.xc_isa_streams.specs.Promises.{view, parted}
 
 pub view_mine : (c : ℕ) (owner : ℕ → ℕ) (m : Segs) (g : ℕ) → owner g ≡ c → view c owner m g ≡ m g
@@ -91,11 +91,6 @@ pub by_view : (k : Ask) (c : ℕ) (owner : ℕ → ℕ) (m : Segs) (last : ℕ) 
 by_view (Of q) c owner m last none = refl
 by_view (Side x) c owner m last none = given_view x c 1 owner m last none
 
--- the request of the machine that an action is
-abbrev pub bare : Ask → Request
-bare (Of q) = q
-bare (Side x) = On x
-
 pub touch_grows : (x : Touch) (n : ℕ) → n ≤ last_of_touch x n
 touch_grows (Reach act) n = omega arith
 touch_grows (New c) n = omega arith
@@ -108,7 +103,7 @@ last_grows (Begin at arg) n = omega arith
 last_grows Stop n = omega arith
 last_grows Tick n = omega arith
 
-pub by_above : (k : Ask) (owner : ℕ → ℕ) (last y : ℕ) → ((y : ℕ) → last < y → owner y ≡ 0) → last_after (bare k) last < y → given_by k owner (suc last) y ≡ 0
+pub by_above : (k : Ask) (owner : ℕ → ℕ) (last y : ℕ) → ((y : ℕ) → last < y → owner y ≡ 0) → last_after (request_of k) last < y → given_by k owner (suc last) y ≡ 0
 by_above (Of q) owner last y above lt = above y (omega (arith, last_grows q last))
 by_above (Side x) owner last y above lt = given_above x owner last 1 y above lt
 
@@ -175,7 +170,7 @@ abbrev source_of : (ℕ → ℕ) → World → World
 source_of owner w = record { segs = view 0 owner w.segs; out = w.out }
 
 -- a request that the machine's world answers is answered in its part
-pub allows_parted : (k : Ask) (num : ℕ) (owner : ℕ → ℕ) (w : World) (a : Reply) (w' : World) → Mine owner k num → Allows (bare k) a num w w' → AllowsIn k a num (parted owner w) (parted owner w')
+pub allows_parted : (k : Ask) (num : ℕ) (owner : ℕ → ℕ) (w : World) (a : Reply) (w' : World) → Mine owner k num → Allows (request_of k) a num w w' → AllowsIn k a num (parted owner w) (parted owner w')
 allows_parted (Of (On x)) num owner w a w' mine h =
     (ap (λ o. with_out o w.out) (owned_touch 0 owner x num w a w' mine h) ∙ ap (λ u. Some (a, record { segs = view 0 owner w'.segs; out = u })) (sym (same_out x num w a w' h)), sym (other_touch 1 0 owner x num w a w' mine (λ e. cc) h))
 allows_parted (Of (Print bytes)) num owner w a w' mine h =
@@ -183,7 +178,7 @@ allows_parted (Of (Print bytes)) num owner w a w' mine h =
     let world : record { segs = w.segs; out = w.out ++ bytes } ≡ w' = some_snd h in
     (ap (λ u. Some (u, record { segs = view 0 owner w.segs; out = w.out ++ bytes })) same ∙ ap (λ u. Some (a, source_of owner u)) world, ap (λ u. view 1 owner u.segs) world)
 allows_parted (Of (Begin at arg)) num owner w Dead w' mine h = absurd h
-allows_parted (Of (Begin at arg)) num owner w (Got v) w' mine h = (ap (source_of owner) h, ap (λ u. view 1 owner u.segs) h)
+allows_parted (Of (Begin at arg)) num owner w (Got v) w' mine h = ((ap (source_of owner) h.0, h.1), ap (λ u. view 1 owner u.segs) h.0)
 allows_parted (Of Stop) num owner w a w' mine h =
     let same : Dead ≡ a = some_fst h in
     let world : w ≡ w' = some_snd h in
@@ -193,11 +188,11 @@ allows_parted (Side x) num owner w a w' mine h =
     (owned_touch 1 owner x num w a w' mine h, ap (λ m. record { segs = m; out = w.out }) (sym (other_touch 0 1 owner x num w a w' mine (λ e. cc) h)) ∙ ap (λ u. record { segs = view 0 owner w'.segs; out = u }) (sym (same_out x num w a w' h)))
 
 -- and no thread sees a change of its own segments
-pub allows_others : (k : Ask) (num c : ℕ) (owner : ℕ → ℕ) (w : World) (a : Reply) (w' : World) → Mine owner k num → Allows (bare k) a num w w' → view (suc (suc c)) owner w'.segs ≡ view (suc (suc c)) owner w.segs
+pub allows_others : (k : Ask) (num c : ℕ) (owner : ℕ → ℕ) (w : World) (a : Reply) (w' : World) → Mine owner k num → Allows (request_of k) a num w w' → view (suc (suc c)) owner w'.segs ≡ view (suc (suc c)) owner w.segs
 allows_others (Of (On x)) num c owner w a w' mine h = other_touch (suc (suc c)) 0 owner x num w a w' mine (λ e. omega (arith, e)) h
 allows_others (Of (Print bytes)) num c owner w a w' mine h = ap (λ u. view (suc (suc c)) owner u.segs) (sym (some_snd h))
 allows_others (Of (Begin at arg)) num c owner w Dead w' mine h = absurd h
-allows_others (Of (Begin at arg)) num c owner w (Got v) w' mine h = ap (λ u. view (suc (suc c)) owner u.segs) (sym h)
+allows_others (Of (Begin at arg)) num c owner w (Got v) w' mine h = ap (λ u. view (suc (suc c)) owner u.segs) (sym h.0)
 allows_others (Of Stop) num c owner w a w' mine h = ap (λ u. view (suc (suc c)) owner u.segs) (sym (some_snd h))
 allows_others (Of Tick) num c owner w a w' mine h = ap (λ u. view (suc (suc c)) owner u.segs) (sym h)
 allows_others (Side x) num c owner w a w' mine h = other_touch (suc (suc c)) 1 owner x num w a w' mine (λ e. omega (arith, e)) h
@@ -220,10 +215,10 @@ touch_world_high x last w v w' high h g lt =
     let t = touched_is x (suc last) w (Got v) w' h in
     ap (λ u. u.segs g) t.world ∙ touch_high x last w.segs v t.ys high t.op_is g lt
 
-pub allows_high : (k : Ask) (last : ℕ) (w : World) (v : ℕ) (w' : World) → ((g : ℕ) → last < g → w.segs g ≡ []) → Allows (bare k) (Got v) (suc last) w w' → (g : ℕ) → last_after (bare k) last < g → w'.segs g ≡ []
+pub allows_high : (k : Ask) (last : ℕ) (w : World) (v : ℕ) (w' : World) → ((g : ℕ) → last < g → w.segs g ≡ []) → Allows (request_of k) (Got v) (suc last) w w' → (g : ℕ) → last_after (request_of k) last < g → w'.segs g ≡ []
 allows_high (Of (On x)) last w v w' high h g lt = touch_world_high x last w v w' high h g lt
 allows_high (Of (Print bytes)) last w v w' high h g lt = ap (λ u. u.segs g) (sym (some_snd h)) ∙ high g lt
-allows_high (Of (Begin at arg)) last w v w' high h g lt = ap (λ u. u.segs g) (sym h) ∙ high g lt
+allows_high (Of (Begin at arg)) last w v w' high h g lt = ap (λ u. u.segs g) (sym h.0) ∙ high g lt
 allows_high (Of Stop) last w v w' high h g lt = let bad : Dead ≡ Got v = some_fst h in cc
 allows_high (Of Tick) last w v w' high h g lt = ap (λ u. u.segs g) (sym h) ∙ high g lt
 allows_high (Side x) last w v w' high h g lt = touch_world_high x last w v w' high h g lt

@@ -7,7 +7,7 @@ use Rattle.xc_meaning_world.proofs.Puts.{by_same}
 use Rattle.xc_isa.specs.declared.code.Code.{Code}
 use Rattle.xc_isa.specs.Effects.{Regs, Effect, Goes, Asks, Faults, Quits, effect}
 use Rattle.xc_isa.specs.Machine as machine
-use Rattle.xc_isa.specs.Machine.{Slot, Live, State, After, At, Trap, Waits, Spent, last_after, numbered, served, free_slot, starts, takes, in_slot, step}
+use Rattle.xc_isa.specs.Machine.{Slot, Live, State, After, At, Trap, Waits, Spent, last_after, numbered, served, free_slot, starts, takes, in_slot, step, IsReady}
 use Rattle.xc_isa_streams.specs.Class.{Class, Source, Private, Shared, in_place}
 use Rattle.xc_isa_streams.specs.Parts.{Ask, Of, Side}
 use Rattle.xc_meaning_world.specs.Runs.{part_of}
@@ -33,6 +33,12 @@ served_waits q (Some (Got v, w)) pc rf s slots n e = absurd (numbered_goes (last
 starts_goes : (o : Option ℕ) (at arg pc : ℕ) (rf : ℕ → Regs) (s : ℕ) (slots : List Slot) (w : World) (n : ℕ) → starts o at arg pc rf s slots w n ≡ Waits → ⊥
 starts_goes None at arg pc rf s slots w n e = cc
 starts_goes (Some f) at arg pc rf s slots w n e = cc
+
+not_ready : (x : After) → ((x ≡ Waits → ⊥) → ⊥) → x ≡ Waits
+not_ready (At st) h = absurd (h (λ e. cc))
+not_ready (Trap kind) h = absurd (h (λ e. cc))
+not_ready Waits h = refl
+not_ready Spent h = absurd (h (λ e. cc))
 
 -- only a touch waits
 touch_waits : (q : Request) (pc : ℕ) (rf : ℕ → Regs) (s : ℕ) (slots : List Slot) (w : World) (n : ℕ) → machine.asks q pc rf s slots w n ≡ Waits → (x : Touch) × (q ≡ On x) × (serve (On x) (suc n) w ≡ None)
@@ -117,3 +123,8 @@ module _ (of : ℕ → Class) (code : Code) (always : AlwaysOwn of code) (fair :
   waits_shown st made g s pc r here e =
       by_effect s pc r st.slots st.world st.last made g here (effect code.formats (slice_get code.instrs pc) pc r) refl
       (sym (ap (λ o. in_slot code o s st.slots st.world st.last) here) ∙ e)
+
+  pub stuck_waits : (st : State) (made : ℕ) (g : Stage of code st.slots st.world st.last made) → ((s : ℕ) → IsReady code s st → ⊥) → (a pc : ℕ) (r : Regs) → slice_get g.acts a ≡ Some (Live pc r) → Waiting of code g.l (parted g.owner st.world) st.last a
+  stuck_waits st made g none a pc r here =
+      let f = g.seats.found a pc r here in
+      subst (Waiting of code g.l (parted g.owner st.world) st.last) f.2 (waits_shown st made g f.0 pc r f.1 (not_ready (step code f.0 st) (none f.0)))

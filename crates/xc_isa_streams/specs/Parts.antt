@@ -1,7 +1,7 @@
 -- Actions on the memory in two parts: the source's, and the words that streams share and the source does not have.
 use Rattle.std.specs.Prelude.{◌≡◌, ◌⊎◌, ℕ, zero, suc, ◌+◌, ◌*◌, ◌^◌, ◌<◌, ◌≤◌, List, [], ◌∷◌, ◌++◌, length, Some}
 use Rattle.xc_meaning_world.specs.World.{Segs, World, Touch, Reach, New, Free, Request, On, Print, Begin, Stop, Tick, Reply, Got, Dead, Action, act_of, touched}
-use Rattle.xc_meaning_world.specs.Runs.{Allows, Applies}
+use Rattle.xc_meaning_world.specs.Runs.{Allows, NewIn, Applies}
 
 -- what a stream asks: of the source's world, or a touch of what is shared
 pub data Ask : Type 0 where
@@ -25,10 +25,20 @@ abbrev pub AllowsIn : Ask → Reply → ℕ → Parts → Parts → Type 0
 AllowsIn (Of q) a num p p' = Allows q a num p.source p'.source × (p.side ≡ p'.side)
 AllowsIn (Side x) a num p p' = (touched x num p.side ≡ Some (a, p'.side)) × (p.source ≡ p'.source)
 
+-- the request that it is of the whole memory
+abbrev pub request_of : Ask → Request
+request_of (Of q) = q
+request_of (Side x) = On x
+
+-- a number above n that a new segment may have
+abbrev pub IsAbove : ℕ → ℕ → Type 0
+IsAbove n num = (n < num) × (num < 2 ^ 32)
+
 -- the last number of a segment, where num is the number of a new one
 abbrev pub up_touch : Touch → ℕ → ℕ → ℕ
 up_touch (Reach act) n num = n
-up_touch (New cells) n num = num
+up_touch (New zero) n num = n
+up_touch (New (suc cells)) n num = num
 up_touch (Free g) n num = n
 
 abbrev pub up : Ask → ℕ → ℕ → ℕ
@@ -39,10 +49,10 @@ up (Of Stop) n num = n
 up (Of Tick) n num = n
 up (Side x) n num = up_touch x n num
 
--- these actions are allowed, one after another, where new segments of either part get ever higher numbers, above n
+-- these actions are allowed, one after another, where new segments of either part get ever higher numbers, above n and up to 2^32 - 1
 abbrev pub Serves : Parts → ℕ → List (ℕ × Act) → Parts → ℕ → Type 0
 Serves p n [] p' n' = (p ≡ p') × (n ≤ n')
-Serves p n ((i, a) ∷ l) p' n' = (num : ℕ) × (n < num) × (m : Parts) × AllowsIn a.ask a.reply num p m × Serves m (up a.ask n num) l p' n'
+Serves p n ((i, a) ∷ l) p' n' = (num : ℕ) × NewIn (IsAbove n) (request_of a.ask) num × (m : Parts) × AllowsIn a.ask a.reply num p m × Serves m (up a.ask n num) l p' n'
 
 -- the actions on the source's part
 abbrev pub source_and : ℕ → Ask → Reply → List (ℕ × Action) → List (ℕ × Action)
@@ -57,9 +67,19 @@ sources ((i, a) ∷ l) = source_and i a.ask a.reply (sources l)
 abbrev pub SourcesApply : Type 0
 SourcesApply = (globals : ℕ) (p p' : Parts) (l : List (ℕ × Act)) (last : ℕ) → ((g : ℕ) → globals < g → p.source.segs g ≡ []) → Serves p globals l p' last → Applies globals p.source (sources l) p'.source
 
--- its last action is a trap
+-- the reply is no trap
+abbrev pub IsGot : Reply → Type 0
+IsGot (Got v) = Unit {0}
+IsGot Dead = ⊥
+
+-- no action is a trap
+abbrev pub Alive : List (ℕ × Act) → Type 0
+Alive [] = Unit {0}
+Alive ((i, a) ∷ l) = IsGot a.reply × Alive l
+
+-- its last action is a trap, and no other
 abbrev pub HasTrapped : List (ℕ × Act) → Type 0
-HasTrapped l = (front : List (ℕ × Act)) × (s : ℕ) × (k : Ask) × (l ≡ front ++ (s, act k Dead) ∷ [])
+HasTrapped l = (front : List (ℕ × Act)) × (s : ℕ) × (k : Ask) × (l ≡ front ++ (s, act k Dead) ∷ []) × Alive front
 
 -- ---- segments
 

@@ -1,14 +1,15 @@
 -- What is asked of code, and what it then promises of every run of the machine.
 use Rattle.std.specs.Prelude.{◌≡◌, ◌⊎◌, ℕ, zero, suc, ◌+◌, ◌<◌, ◌≤◌, ◌==◌, List, [], ◌∷◌, ◌++◌, length, Some, None, slice_get, map, if◌then◌else◌}
-use Rattle.xc_meaning_world.specs.World.{Segs, World, Touch, On, Begin, Reply, Dead, touched, world_of}
+use Rattle.xc_meaning_world.specs.World.{Segs, World, Touch, Request, On, Print, Begin, Stop, Tick, Reply, Got, Dead, touched, world_of}
 use Rattle.xc_meaning_world.specs.Runs.{part_of}
 use Rattle.xc_isa.specs.declared.code.Code.{Code}
 use Rattle.xc_isa.specs.Texts.{cells_of}
 use Rattle.xc_isa.specs.Effects.{Regs, Asks, effect}
-use Rattle.xc_isa.specs.Machine.{Slot, Empty, Live, State, Waits, step, start, HasQuit}
+use Rattle.xc_isa.specs.Machine as machine
+use Rattle.xc_isa.specs.Machine.{Slot, Empty, Live, State, After, Waits, step, IsReady, start, HasQuit, words_up_to, live_words}
 use Rattle.xc_isa.specs.Runs.{Ran, At, Trap, NoRun, run}
 use Rattle.xc_isa_streams.specs.Class.{Class}
-use Rattle.xc_isa_streams.specs.Parts.{Ask, Of, Side, Act, act, Parts, Serves, HasTrapped, SideMade, Known, Fair, threads_in, InTurn}
+use Rattle.xc_isa_streams.specs.Parts.{Ask, Of, Side, Act, act, Parts, Serves, Alive, HasTrapped, SideMade, Known, FairTouch, Fair, begun, threads_in, InTurn}
 use Rattle.xc_isa_streams.specs.Local.{End, Ended, Bad, Own, own_of, local, local_from, IsOver, end_trace, replies_of}
 
 -- numbers of segments to come: above n, and all different
@@ -43,13 +44,29 @@ pub record Shown (of : ℕ → Class) (code : Code) (l : List (ℕ × Act)) (ste
 
 -- ---- what is asked of code
 
--- after actions that the memory allows and the threads show, no thread touches as its own what is not its own
+-- after actions that the memory allows and the threads show, none a trap, no thread touches as its own what is not its own
 abbrev pub AlwaysOwn : (ℕ → Class) → Code → Type 0
-AlwaysOwn of code = (l : List (ℕ × Act)) (steps : List ℕ) (p : Parts) (n a at arg m j : ℕ) (t : List Act) → Serves (first_parts code) (globals_of code) l p n → Shown of code l steps → slice_get (threads_in l) a ≡ Some (at, arg) → (s : Shows of code at arg m (part_of a l)) → local_from of code j at arg s.num (replies_of (part_of a l)) ≡ Bad t → ⊥
+AlwaysOwn of code = (l : List (ℕ × Act)) (steps : List ℕ) (p : Parts) (n a at arg m j : ℕ) (t : List Act) → Serves (first_parts code) (globals_of code) l p n → Shown of code l steps → Alive l → slice_get (threads_in l) a ≡ Some (at, arg) → (s : Shows of code at arg m (part_of a l)) → local_from of code j at arg s.num (replies_of (part_of a l)) ≡ Bad t → ⊥
 
--- and, of the source and of what is shared, whatever it touches next is of a segment that this part knows
-abbrev pub AlwaysFair : (ℕ → Class) → Code → Type 0
-AlwaysFair of code = (l : List (ℕ × Act)) (steps : List ℕ) (p : Parts) (n a at arg m : ℕ) (k : Ask) → Serves (first_parts code) (globals_of code) l p n → Shown of code l steps → slice_get (threads_in l) a ≡ Some (at, arg) → Shows of code at arg m (part_of a l ++ act k Dead ∷ []) → Fair (globals_of code) l k
+-- After actions l that the memory allows and the threads show, none a trap, some thread asks k next.
+pub record AsksNext (of : ℕ → Class) (code : Code) (l : List (ℕ × Act)) (k : Ask) : Type 0 where
+  pub steps : List ℕ
+  pub parts : Parts
+  pub last : ℕ
+  pub a : ℕ
+  pub at : ℕ
+  pub arg : ℕ
+  pub m : ℕ
+  pub serves : Serves (first_parts code) (globals_of code) l parts last
+  pub shown : Shown of code l steps
+  pub alive : Alive l
+  pub thread : slice_get (threads_in l) a ≡ Some (at, arg)
+  pub shows : Shows of code at arg m (part_of a l ++ act k Dead ∷ [])
+
+-- whatever a thread asks next of the source, and of what is shared, is of a segment that this part knows
+pub record AlwaysFair (of : ℕ → Class) (code : Code) : Type 0 where
+  pub source : (l : List (ℕ × Act)) (q : Request) → AsksNext of code l (Of q) → Fair (globals_of code) l (Of q)
+  pub side : (l : List (ℕ × Act)) (x : Touch) → AsksNext of code l (Side x) → FairTouch (SideMade l) x
 
 -- It is enough for AlwaysOwn that no thread does so whatever the replies.
 abbrev pub NeverBad : (ℕ → Class) → Code → Type 0
@@ -120,6 +137,7 @@ pub record Stage (of : ℕ → Class) (code : Code) (slots : List Slot) (w : Wor
   pub seats : Seats slots names acts
   pub core : Core of code acts steps (λ a. own_view a owner w.segs) last (threads_in l) l
   pub in_turn : InTurn 1 l
+  pub alive : Alive l
   pub serves : Serves (first_parts code) (globals_of code) l (parted owner w) last
   pub known : (g : ℕ) → Known (globals_of code) l g → (owner g ≡ 0) × (g ≤ last)
   pub sides : (g : ℕ) → SideMade l g → (owner g ≡ 1) × (g ≤ last)
@@ -139,6 +157,65 @@ pub record Fallen (of : ℕ → Class) (code : Code) (made : ℕ) : Type 0 where
   pub serves : Serves (first_parts code) (globals_of code) l parts last
   pub trapped : HasTrapped l
   pub all_steps : total steps ≡ made
+
+-- ---- one step more
+
+-- how many slots are free
+abbrev pub frees : List Slot → ℕ
+frees [] = 0
+frees (Empty ∷ xs) = suc (frees xs)
+frees (Live pc r ∷ xs) = frees xs
+
+-- what a start is answered where so many slots are free
+abbrev pub answer : ℕ → ℕ
+answer zero = 0
+answer (suc n) = 1
+
+-- where so many slots are free, a start is answered so; nothing is said of other replies
+abbrev pub AsFree : ℕ → Ask → ℕ → Type 0
+AsFree n (Of (Begin at arg)) v = v ≡ answer n
+AsFree n (Of (On x)) v = Unit {0}
+AsFree n (Of (Print bytes)) v = Unit {0}
+AsFree n (Of Stop) v = Unit {0}
+AsFree n (Of Tick) v = Unit {0}
+AsFree n (Side x) v = Unit {0}
+
+-- The stream in slot s, the thread i, made a step: without an action it goes on, or quits; or the list has that action more. A start
+-- takes a free slot, if there is one.
+pub data Moves (slots slots' : List Slot) (s i : ℕ) (l l' : List (ℕ × Act)) : Type 0 where
+  goes : l' ≡ l → frees slots' ≡ frees slots → Moves slots slots' s i l l'
+  quits : l' ≡ l → frees slots' ≡ suc (frees slots) → slice_get slots' s ≡ Some Empty → Moves slots slots' s i l l'
+  acts : (k : Ask) (v : ℕ) → l' ≡ l ++ (i, act k (Got v)) ∷ [] → AsFree (frees slots) k v → frees slots' + length (begun k (Got v)) ≡ frees slots → Moves slots slots' s i l l'
+
+-- a Stage one step behind, in which each stream that was there is the thread that it was
+pub record Further (of : ℕ → Class) (code : Code) (slots : List Slot) (w : World) (last made : ℕ) (g : Stage of code slots w last made) (s : ℕ) (slots' : List Slot) (w' : World) (last' : ℕ) : Type 0 where
+  pub stage : Stage of code slots' w' last' (suc made)
+  pub moves : Moves slots slots' s (g.names s) g.l stage.l
+  pub kept : (t pc : ℕ) (r : Regs) → slice_get slots t ≡ Some (Live pc r) → stage.names t ≡ g.names t
+
+-- the list has one action more, the trap
+pub record Falls (of : ℕ → Class) (code : Code) (slots : List Slot) (w : World) (last made : ℕ) (g : Stage of code slots w last made) (s : ℕ) : Type 0 where
+  pub fallen : Fallen of code (suc made)
+  pub ask : Ask
+  pub more : fallen.l ≡ g.l ++ (g.names s, act ask Dead) ∷ []
+
+-- what a step of the stream in slot s comes to
+abbrev pub StepsTo : (of : ℕ → Class) (code : Code) (slots : List Slot) (w : World) (last made : ℕ) → Stage of code slots w last made → ℕ → After → Type 0
+StepsTo of code slots w last made g s (machine.At st) = Further of code slots w last made g s st.slots st.world st.last
+StepsTo of code slots w last made g s (machine.Trap kind) = Falls of code slots w last made g s
+StepsTo of code slots w last made g s machine.Waits = Unit {0}
+StepsTo of code slots w last made g s machine.Spent = Unit {0}
+
+-- after so many steps, the list being this one and then others
+abbrev pub StoodOn : (ℕ → Class) → Code → List (ℕ × Act) → ℕ → Ran → Type 0
+StoodOn of code l made (At st) = (g : Stage of code st.slots st.world st.last made) × (t : List (ℕ × Act)) × (g.l ≡ l ++ t)
+StoodOn of code l made (Trap kind) = (f : Fallen of code made) × (t : List (ℕ × Act)) × (f.l ≡ l ++ t)
+StoodOn of code l made NoRun = Unit {0}
+
+-- the words of the segments of the first so many owners
+abbrev pub words_of_owners : ℕ → (ℕ → ℕ) → Segs → ℕ → ℕ
+words_of_owners zero owner m last = 0
+words_of_owners (suc c) owner m last = words_of_owners c owner m last + words_up_to (view c owner m) last
 
 -- ---- what code promises
 
@@ -186,8 +263,16 @@ pub record Waiting (of : ℕ → Class) (code : Code) (l : List (ℕ × Act)) (p
   pub waits : MustWait ask (suc last) p
 
 -- Every run, on any number of slots and in any order, stands for actions of threads, each of which shows its own, in as many steps
--- as it makes; a run that has ended, for those of threads that have ended. A stream whose step has to wait asks, in its actions, for what has to wait.
+-- as it makes; a run that has ended, for those of threads that have ended. The list of a longer run goes on that of its beginning,
+-- step by step, and a start is answered 1 exactly where a slot is free at its step. A stream whose step has to wait asks, in its
+-- actions, for what has to wait; where no stream is ready, each thread that has not ended does so. The live words are those of the
+-- source, those that are shared and those of each thread.
 pub record RunsStand (of : ℕ → Class) (code : Code) : Type 0 where
   pub runs : (n : ℕ) → 1 ≤ n → (ss : List ℕ) → Stood of code (length ss) (run code ss (start code n))
   pub ended : (n : ℕ) → 1 ≤ n → (ss : List ℕ) (st : State) → run code ss (start code n) ≡ At st → HasQuit st → Finished of code st.world (length ss)
+  pub first : (n : ℕ) → 1 ≤ n → (g : Stage of code (start code n).slots (start code n).world (start code n).last 0) × (g.l ≡ [])
+  pub steps : (st : State) (made : ℕ) (g : Stage of code st.slots st.world st.last made) (s : ℕ) → StepsTo of code st.slots st.world st.last made g s (step code s st)
+  pub onward : (st : State) (made : ℕ) (g : Stage of code st.slots st.world st.last made) (ss : List ℕ) → StoodOn of code g.l (length ss + made) (run code ss st)
+  pub words : (st : State) (made : ℕ) (g : Stage of code st.slots st.world st.last made) → live_words st ≡ words_of_owners (suc (suc (length g.acts))) g.owner st.world.segs st.last
   pub waits : (st : State) (made : ℕ) (g : Stage of code st.slots st.world st.last made) (s pc : ℕ) (r : Regs) → slice_get st.slots s ≡ Some (Live pc r) → step code s st ≡ Waits → Waiting of code g.l (parted g.owner st.world) st.last (g.names s)
+  pub stuck : (st : State) (made : ℕ) (g : Stage of code st.slots st.world st.last made) → ((s : ℕ) → IsReady code s st → ⊥) → (a pc : ℕ) (r : Regs) → slice_get g.acts a ≡ Some (Live pc r) → Waiting of code g.l (parted g.owner st.world) st.last a

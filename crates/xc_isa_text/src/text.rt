@@ -17,14 +17,17 @@ use crate::operand::Full;
 use crate::words::{put_five, put_one, put_three};
 use sqlite_items::Items;
 use std::alloc::{AllocError, Global};
+use thiserror::Error;
 use xc_isa::{Code, Instr, LoopMark, Run};
 use xc_text_lines::{ReadFault, end_line, push_hex, read_lines};
 
 /// Why a text was not read.
-#[derive(Clone, Copy)]
+#[derive(Clone, Copy, Debug, Error)]
 pub enum AsmFault {
     /// The first bad line, counted from 1.
+    #[error("line {0} is bad")]
     Line(u32),
+    #[error("no memory")]
     NoMemory,
 }
 

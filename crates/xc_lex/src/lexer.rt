@@ -11,6 +11,7 @@ use crate::stop::Stop;
 use crate::token::Token;
 use std::alloc::Global;
 use std::marker::Model;
+use thiserror::Error;
 use xc_text_place::{Pos, position};
 
 /// The tokens of a text, in order.
@@ -67,9 +68,11 @@ impl From<Vec<Token>> for Tokens {
 }
 
 /// Why a text has no tokens: want of memory, or its first fault.
-#[derive(Clone, Copy)]
+#[derive(Clone, Copy, Debug, Error)]
 pub enum LexFault {
+    #[error("no memory")]
     NoMemory,
+    #[error("no token at line {line}, column {col}", line = .0.line, col = .0.col)]
     At(Pos),
 }
 

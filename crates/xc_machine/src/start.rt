@@ -11,16 +11,19 @@ use crate::store::Store;
 use crate::stream::Stream;
 use sqlite_items::Items;
 use std::alloc::{AllocError, Global};
+use thiserror::Error;
 use xc_isa::{Code, Run};
 use xc_sched::Ready;
 use xc_word::{Cell, Memory};
 
 /// Why there is no machine.
-#[derive(Clone, Copy)]
+#[derive(Clone, Copy, Debug, Error)]
 pub enum NewFault {
     /// The globals have so many words, more than may be live.
+    #[error("the globals have {0} words")]
     Words(u64),
     /// The host's memory is used up.
+    #[error("no memory")]
     NoMemory,
 }
 

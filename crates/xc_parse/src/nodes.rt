@@ -16,8 +16,9 @@ use xc_parse_grammar::Shape;
 use xc_raw::{Raw, Rule};
 
 /// The greatest height of a tree that is built. Dropping a tree takes host stack for each level, and the rules that
-/// do not count for the depth could nest as deep as the text.
-const HEIGHT_LIMIT: u32 = 4096;
+/// do not count for the depth could nest as deep as the text. The highest trees of each kind go through the compiler on a
+/// stack of 2 MiB.
+const HEIGHT_LIMIT: u32 = 1024;
 
 /// A node whose parts are still read, and how high the highest of them is.
 #[derive(Drop)]

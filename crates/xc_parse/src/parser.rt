@@ -9,6 +9,7 @@ ghost use Rattle.xc_parse.specs.InnerTexts.{Pushed, IsDone};
 
 use crate::nodes::Nodes;
 use std::alloc::{AllocError, AllocFailed, Global};
+use thiserror::Error;
 use xc_lex::Tokens;
 use xc_parse_depth::first_deeper;
 use xc_parse_grammar::{Class, Goal, Move, Shape, Spot, plan, start};
@@ -16,12 +17,15 @@ use xc_raw::{Level, Raw, Rule, Word, word_of};
 use xc_text_place::{Pos, position};
 
 /// Why there is no tree.
-#[derive(Drop)]
+#[derive(Debug, Drop, Error)]
 pub enum ParseFault {
+    #[error("no memory")]
     NoMemory,
     /// The first token after which no continuation is in the grammar, or the end of the text.
+    #[error("no text goes on so at line {line}, column {col}", line = .0.line, col = .0.col)]
     Syntax(Pos),
     /// The first token of the first node that is too deep, of a text that has a tree.
+    #[error("nested too deeply at line {line}, column {col}", line = .0.line, col = .0.col)]
     Depth(Pos),
 }
 

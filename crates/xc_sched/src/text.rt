@@ -10,13 +10,16 @@ use crate::draft::Draft;
 use crate::recorded::Recorded;
 use crate::run::{Run, rest};
 use std::alloc::{AllocError, Global};
+use thiserror::Error;
 use xc_text_lines::{ReadFault, end_line, push_number, push_space, read_lines};
 
 /// Why a schedule was not read.
-#[derive(Clone, Copy, Debug, PartialEq, Eq)]
+#[derive(Clone, Copy, Debug, PartialEq, Eq, Error)]
 pub enum SchedFault {
     /// The first bad line, counted from 1.
+    #[error("line {0} is bad")]
     Line(u32),
+    #[error("no memory")]
     NoMemory,
 }
 

@@ -5,6 +5,7 @@ ghost use Rattle.xc_text_lines.specs.Lines.{is_feed, pieces, HasFewLines, read_p
 ghost use Rattle.xc_text_lines.specs.InnerLines.{CutsLine};
 
 use std::alloc::AllocError;
+use thiserror::Error;
 
 /// Why a line was not taken.
 #[derive(Clone, Copy, Debug, PartialEq, Eq)]
@@ -26,10 +27,12 @@ impl From<AllocError> for Refused {
 }
 
 /// Why a text was not read.
-#[derive(Clone, Copy, Debug, PartialEq, Eq)]
+#[derive(Clone, Copy, Debug, PartialEq, Eq, Error)]
 pub enum ReadFault {
     /// The first bad line, counted from 1.
+    #[error("line {0} is bad")]
     Line(u32),
+    #[error("no memory")]
     NoMemory,
 }
 

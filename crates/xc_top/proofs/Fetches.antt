@@ -1,34 +1,23 @@
--- A fetch after another one.
-use Rattle.std.proofs.Common.{◌≡◌, ℕ, ◌<◌, ◌≤◌, List, length, Option, Some, None, refl, sym, ap, ◌∙◌, subst, arith}
-use Rattle.std.specs.Prelude.{IfSome, IsSome}
-use Rattle.xc_top.specs.declared.status.Status.{Status}
-use Rattle.xc_top.specs.declared.status.Status.TheVariants.{ReadFault, Long}
-use Rattle.xc_top.specs.Seen.{ShelfSeen, Told}
-use Rattle.xc_top.specs.Answers.{IsUnreadAt}
+-- What was fetched, put together.
+use Rattle.std.proofs.Common.{◌≡◌, ◌≤◌, ◌+◌, ℕ, List, Option, Some, None, refl, sym, ap, ◌∙◌, subst}
+use Rattle.xc_top_words.specs.declared.command.Command.{Command}
+use Rattle.xc_top_words.specs.Commands.{file_in, schedule_of}
+use Rattle.xc_top.specs.Seen.{Counts, ShelfSeen, until, since}
+use Rattle.xc_top.specs.Answers.{Fetches, Has, HasSchedule, AreRead, MayHaveFetched, File, Both, limit_in, text_limit}
 
-some_map : {X : Type 0} {P Q : X → Type 0} (o : Option X) → ((x : X) → IsSome o → P x → Q x) → IfSome o P → IfSome o Q
-some_map None f h = tt
-some_map (Some x) f h = f x refl h
+-- what is known of FILE's fetch
+pub of_file : (P : List ℕ → ℕ → Type 0) (c : Command) (name : List ℕ) (limit : ℕ) → name ≡ file_in c → limit ≡ limit_in c → P name limit → P (file_in c) (limit_in c)
+of_file P c name limit e f h = subst (P (file_in c)) f (subst (λ n. P n limit) e h)
 
--- told of a later fetch, where an earlier one raised no count
-told_later : (shelf later : ShelfSeen) (name : List ℕ) (P : List ℕ → Type 0) → later.files ≡ shelf.files → later.faults_after ≡ shelf.faults_after
-    → (IsSome shelf.files → (other : List ℕ) → later.faults_before other ≡ shelf.faults_before other) → Told later name P → Told shelf name P
-told_later shelf later name P files faults quiet told =
-    let at : (o : Option (List ℕ → Option (List ℕ))) → later.files ≡ o → IfSome o (λ f. (later.faults_after name ≡ later.faults_before name) × (text : List ℕ) × (f name ≡ Some text) × P text) =
-    λ o e. subst (λ x. IfSome x (λ f. (later.faults_after name ≡ later.faults_before name) × (text : List ℕ) × (f name ≡ Some text) × P text)) e told in
-    some_map shelf.files (λ f some h. (ap (λ (k : List ℕ → ℕ). k name) (sym faults) ∙ h.0 ∙ quiet some name, h.1, h.2, h.3)) (at shelf.files files)
+-- what is known of a later fetch, the files being the same
+pub later : (P : ShelfSeen → Type 0) (shelf : ShelfSeen) (between : Counts) (files : Option (List ℕ → Option (List ℕ))) → files ≡ shelf.files → P (record { files = files; before = between; after = shelf.after }) → P (since between shelf)
+later P shelf between files e h = subst (λ f. P (record { files = f; before = between; after = shelf.after })) e h
 
--- a file that was not read after another one was
-pub unread_later : (shelf later : ShelfSeen) (name : List ℕ) (limit : ℕ) (status : Status) → later.files ≡ shelf.files → later.faults_after ≡ shelf.faults_after → later.taken_after ≡ shelf.taken_after
-    → (IsSome shelf.files → (other : List ℕ) → later.faults_before other ≡ shelf.faults_before other)
-    → ((other : List ℕ) → shelf.faults_before other ≤ later.faults_before other) → shelf.taken_before ≤ later.taken_before
-    → IsUnreadAt name limit later status → IsUnreadAt name limit shelf status
-unread_later shelf later name limit (ReadFault n) files faults taken quiet kept taken_kept h =
-    let more = kept name in
-    let rose = h.1 in
-    let same : later.faults_after name ≡ shelf.faults_after name = ap (λ (k : List ℕ → ℕ). k name) faults in
-    (h.0, omega (arith, more, rose, same))
-unread_later shelf later name limit (Long n) files faults taken quiet kept taken_kept h =
-    let rose = h.1 in
-    (h.0, omega (arith, rose, taken, taken_kept), told_later shelf later name (λ text. limit < length text) files faults quiet h.2)
-unread_later shelf later name limit _ files faults taken quiet kept taken_kept h = absurd h
+-- both files are read, so both were fetched, or FILE alone
+pub read_fetched : (c : Command) (shelf : ShelfSeen) (text : List ℕ) (schedule : Option (List ℕ)) → AreRead c shelf text schedule → MayHaveFetched (Some c) shelf
+read_fetched c shelf text schedule h = by (schedule_of c) refl schedule h.second
+  where
+    by : (named : Option (List ℕ)) → schedule_of c ≡ named → (schedule : Option (List ℕ)) → HasSchedule (since h.between shelf) named schedule → MayHaveFetched (Some c) shelf
+    by None e schedule k = File c refl (subst (λ m. Fetches (file_in c) (limit_in c) (until m shelf)) (sym k.1) h.first.fetches)
+    by (Some name) e None k = absurd k
+    by (Some name) e (Some t) k = Both c refl h.between text h.first name e k.fetches

@@ -1,6 +1,6 @@
 -- What the texts decide, put together.
 use Rattle.std.proofs.Common.{◌≡◌, ◌≤◌, ℕ, List, [], Option, Some, None, Result, Ok, Err, refl, sym, ap, ◌∙◌, subst}
-use Rattle.std.specs.Prelude.{IfOk, MatchResult}
+use Rattle.std.specs.Prelude.{MatchResult}
 use Rattle.xc_text_lines.specs.Grammar.{IsFirstBad}
 use Rattle.xc_sched.specs.Runs.{Spells as SpellsSteps, IsSchedule}
 use Rattle.xc_isa.specs.declared.code.Code.{Code}
@@ -20,16 +20,6 @@ use Rattle.xc_top.specs.declared.status.Status.TheVariants.{BadSchedule}
 use Rattle.xc_top.specs.Lines.{line_of}
 use Rattle.xc_top.specs.Judges.{StandsFor, Chooses, IsBadSchedule, status_of, with_choices, Executes, NoSchedule, WasRun, Judges, Executed}
 use Rattle.xc_top.proofs.Sources.{sourced}
-
-pub ok_map : {A E : Type 0} {P Q : A → Type 0} (r : Result A E) → ((x : A) → P x → Q x) → IfOk r P → IfOk r Q
-ok_map (Ok x) f h = f x h
-ok_map (Err e) f h = h
-
-pub ok_of : {A E : Type 0} (P : A → Type 0) (Q : E → Type 0) (r : Result A E) (x : A) → r ≡ Ok x → MatchResult r P Q → P x
-ok_of P Q r x e h = subst (λ r. MatchResult r P Q) e h
-
-pub err_of : {A E : Type 0} (P : A → Type 0) (Q : E → Type 0) (r : Result A E) (x : E) → r ≡ Err x → MatchResult r P Q → Q x
-err_of P Q r x e h = subst (λ r. MatchResult r P Q) e h
 
 -- what a schedule's text is
 spelled : (file text : List ℕ) (r : Result Source Bad) → MatchResult r (λ s. (steps : List ℕ) × SpellsSteps text steps × (s ≡ source.Schedule steps)) (λ bad. (k : ℕ) × (bad ≡ Line file k) × IsFirstBad IsSchedule text k)

@@ -1,11 +1,14 @@
 -- What a command answers to the texts of its files.
 use Rattle.std.specs.Prelude.{◌≡◌, ◌≤◌, ℕ, List, [], ◌++◌, Option, Some, None}
 use Rattle.xc_meaning_world.specs.World.{World, Action}
+use Rattle.xc_meaning_world.specs.Runs.{HasTrapped}
 use Rattle.xc_text_place.specs.declared.Pos.{Pos}
 use Rattle.xc_tree.specs.declared.tree.Tree.{Tree}
 use Rattle.xc_meaning.specs.Terms.{Program, program_of}
 use Rattle.xc_meaning.specs.Source.{SourceRun, HasEnded}
 use Rattle.xc_isa.specs.declared.code.Code.{Code}
+use Rattle.xc_driver.specs.declared.fault.RefusalKind.{RefusalKind}
+use Rattle.xc_driver.specs.declared.fault.RefusalKind.TheVariants as refusal
 use Rattle.xc_driver.specs.Compiles.{IsTreeOf, IsCodeOf, IsRefusal}
 use Rattle.xc_text_lines.specs.Grammar.{IsFirstBad}
 use Rattle.xc_isa_text.specs.Texts.{contents_of, Spells as SpellsCode, IsAssembly}
@@ -22,11 +25,12 @@ use Rattle.xc_machine_play.specs.declared.outcome.Ending.{Ending}
 use Rattle.xc_machine_play.specs.declared.outcome.Ending.TheVariants as ending
 use Rattle.xc_machine_play.specs.Plays.{Plays, IsRecord}
 use Rattle.xc_top.specs.declared.status.FileKind.{FileKind}
-use Rattle.xc_top.specs.declared.status.FileKind.TheVariants.{Asm, Source as InSource}
+use Rattle.xc_top.specs.declared.status.FileKind.TheVariants.{Lex, Syntax, Depth, Name, Typing, Count, Asm, Unbuilt}
 use Rattle.xc_top.specs.declared.status.Numbers.{Numbers}
+use Rattle.xc_top.specs.declared.status.Shown.TheVariants.{Ran, Nothing}
 use Rattle.xc_top.specs.declared.status.Bad.TheVariants.{Line, Entry}
 use Rattle.xc_top.specs.declared.status.Status.{Status}
-use Rattle.xc_top.specs.declared.status.Status.TheVariants.{Ok, Compiled, Refused, Trap, Unfinished, Stuck, BadSchedule, WordsFull, OutFull}
+use Rattle.xc_top.specs.declared.status.Status.TheVariants.{Ok, Refused, Trap, Unfinished, Stuck, BadSchedule, WordsFull, OutFull}
 use Rattle.xc_top.specs.Lines.{line_of}
 
 -- the code of a source's typed tree, which is faithful to its program, ends in time and is never stuck
@@ -39,15 +43,23 @@ StandsFor (Run options file) text code = IsSourceCode text code
 StandsFor (Compile file) text code = IsSourceCode text code
 StandsFor (Exec options file) text code = SpellsCode text (contents_of code)
 
+-- how the reason why a source has no code is told
+abbrev pub kind_of : RefusalKind → FileKind
+kind_of refusal.Lex = Lex
+kind_of refusal.Syntax = Syntax
+kind_of refusal.Depth = Depth
+kind_of refusal.Name = Name
+kind_of refusal.Typing = Typing
+kind_of refusal.Count = Count
+kind_of refusal.Unbuilt = Unbuilt
+
 -- why a source has no code, and where
 abbrev pub IsRefusedSource : List ℕ → FileKind → Pos → Type 0
-IsRefusedSource text (InSource kind) at = IsRefusal text kind at
-IsRefusedSource text Asm at = ⊥
+IsRefusedSource text kind at = (why : RefusalKind) × (kind ≡ kind_of why) × IsRefusal text why at
 
 -- why a text is no assembly: its first bad line
 abbrev pub IsRefusedCode : List ℕ → FileKind → Pos → Type 0
-IsRefusedCode text Asm at = IsFirstBad IsAssembly text at.line × (at.col ≡ 1)
-IsRefusedCode text (InSource kind) at = ⊥
+IsRefusedCode text kind at = (kind ≡ Asm) × IsFirstBad IsAssembly text at.line × (at.col ≡ 1)
 
 -- why a file's text stands for no code, and where
 abbrev pub IsRefused : Command → List ℕ → FileKind → Pos → Type 0
@@ -71,12 +83,12 @@ IsBadSchedule (choice.Schedule file) (Some text) name k = (name ≡ file) × IsF
 
 -- the status of a run that ended so
 abbrev pub status_of : Ending → Numbers → Status
-status_of ending.Ended n = Ok n
-status_of ending.Left n = BadSchedule (Entry n)
+status_of ending.Ended n = Ok (Ran n)
+status_of ending.Left n = BadSchedule (Entry n.steps n)
 status_of ending.Stuck n = Stuck n
-status_of ending.Unfinished n = Unfinished n
-status_of ending.BadChoice n = BadSchedule (Entry n)
-status_of (ending.Trap kind stream) n = Trap kind stream n
+status_of ending.Unfinished n = Unfinished (Some n)
+status_of ending.BadChoice n = BadSchedule (Entry n.steps n)
+status_of (ending.Trap kind stream) n = Trap (Some (record { kind = kind; stream = stream; numbers = n }))
 status_of (ending.WordsFull live asked) n = WordsFull live asked n
 status_of (ending.OutFull len piece) n = OutFull len piece n
 
@@ -89,9 +101,14 @@ with_choices line (Some choices) = line ++ choices
 abbrev pub IsSourceOutput : Program → List ℕ → Type 0
 IsSourceOutput p out = (actions : List (ℕ × Action)) × (w : World) × SourceRun p actions w × HasEnded p actions × (w.out ≡ out)
 
--- where a compiled program was run to its end, its output is that of a source run
+-- a source run of the program has trapped
+abbrev pub HasSourceTrap : Program → Type 0
+HasSourceTrap p = (actions : List (ℕ × Action)) × (w : World) × SourceRun p actions w × HasTrapped actions
+
+-- where a compiled program was run to its end, its output is that of a source run; where it trapped, a source run traps
 abbrev pub IsSourced : Command → List ℕ → Status → List ℕ → Type 0
-IsSourced (Run options file) text (Ok n) out = (tree : Tree) × IsTreeOf text tree × IsSourceOutput (program_of tree) out
+IsSourced (Run options file) text (Ok shown) out = (tree : Tree) × IsTreeOf text tree × IsSourceOutput (program_of tree) out
+IsSourced (Run options file) text (Trap shown) out = (tree : Tree) × IsTreeOf text tree × HasSourceTrap (program_of tree)
 IsSourced (Run options file) text _ out = Unit {0}
 IsSourced (Exec options file) text status out = Unit {0}
 IsSourced (Compile file) text status out = Unit {0}
@@ -129,7 +146,7 @@ pub data Executes (o : Options) (code : Code) (schedule : Option (List ℕ)) (st
 -- the code's assembly goes to out
 pub record IsWritten (code : Code) (status : Status) (out err : List ℕ) : Type 0 where
   pub spells : SpellsCode out (contents_of code)
-  pub is_status : status ≡ Compiled
+  pub is_status : status ≡ Ok Nothing
   pub silent : err ≡ []
 
 -- the text stands for no code

@@ -1,10 +1,10 @@
 //! The texts of a command's files.
 
-ghost use Rattle.std.specs.Prelude.{◌≡◌, ◌≤◌, ◌<◌, ◌^◌, ℕ, List, Option, IsSome, OnOk, IfOk, MatchResult};
+ghost use Rattle.std.specs.Prelude.{◌≡◌, ◌^◌, ℕ, List, Some, OnErr, IfOk};
 ghost use Rattle.std.specs.Option.{option_map};
-ghost use Rattle.xc_top_words.specs.Commands.{file_in, schedule_of};
-ghost use Rattle.xc_top.specs.Seen.{ShelfSeen};
-ghost use Rattle.xc_top.specs.Answers.{Has, HasSchedule, IsUnread, IsUnreadAt, limit_in};
+ghost use Rattle.xc_top_words.specs.Commands.{schedule_of};
+ghost use Rattle.xc_top.specs.Seen.{shelf_seen};
+ghost use Rattle.xc_top.specs.Answers.{Fetches, Has, HasSchedule, AreRead, IsUnread, IsUnreadAt, MayHaveFetched, limit_in};
 
 use crate::status::Status;
 use std::alloc::{AllocError, Global};
@@ -50,12 +50,10 @@ fn fetch_text<F: Shelf>(
     limit: usize,
     shelf: &mut F,
 ) -> Result<Vec<u8>, Unread>
-    ensures text { IfOk result (λ t. Has (record { files = F.files shelf.old; faults_before = F.faults shelf.old; faults_after = F.faults shelf.new; taken_before = F.taken shelf.old; taken_after = F.taken shelf.new }) name.now limit t.items) }
-    ensures unread { (status : Status) → result ≡ Err (Unread.Said status) → IsUnreadAt name.now limit (record { files = F.files shelf.old; faults_before = F.faults shelf.old; faults_after = F.faults shelf.new; taken_before = F.taken shelf.old; taken_after = F.taken shelf.new }) status }
-    ensures quiet { OnOk result (IsSome (F.files shelf.old) → (other : List ℕ) → F.faults shelf.new other ≡ F.faults shelf.old other) }
+    ensures fetches { Fetches name.now limit (shelf_seen F.files F.faults F.taken shelf.old shelf.new) }
+    ensures text { IfOk result (λ t. Has (shelf_seen F.files F.faults F.taken shelf.old shelf.new) name.now limit t.items) }
+    ensures unread { (status : Status) → result ≡ Err (Unread.Said status) → IsUnreadAt name.now limit (shelf_seen F.files F.faults F.taken shelf.old shelf.new) status }
     ensures files_stay { F.files shelf.new ≡ F.files shelf.old }
-    ensures faults_kept { (other : List ℕ) → F.faults shelf.old other ≤ F.faults shelf.new other }
-    ensures taken_kept { F.taken shelf.old ≤ F.taken shelf.new }
 {
     match shelf.fetch(name.as_str(), limit) {
         Ok(text) => Ok(text),
@@ -87,12 +85,9 @@ fn fetch_schedule<F: Shelf>(
     command: &Command,
     shelf: &mut F,
 ) -> Result<Option<Vec<u8>>, Unread>
-    ensures text { IfOk result (λ t. HasSchedule (record { files = F.files shelf.old; faults_before = F.faults shelf.old; faults_after = F.faults shelf.new; taken_before = F.taken shelf.old; taken_after = F.taken shelf.new }) (schedule_of command.now) (option_map (λ v. v.items) t)) }
-    ensures unread { (status : Status) → result ≡ Err (Unread.Said status) → (name : List ℕ) × (schedule_of command.now ≡ Some name) × IsUnreadAt name (2 ^ 26) (record { files = F.files shelf.old; faults_before = F.faults shelf.old; faults_after = F.faults shelf.new; taken_before = F.taken shelf.old; taken_after = F.taken shelf.new }) status }
-    ensures quiet { OnOk result (IsSome (F.files shelf.old) → (other : List ℕ) → F.faults shelf.new other ≡ F.faults shelf.old other) }
-    ensures files_stay { F.files shelf.new ≡ F.files shelf.old }
-    ensures faults_kept { (other : List ℕ) → F.faults shelf.old other ≤ F.faults shelf.new other }
-    ensures taken_kept { F.taken shelf.old ≤ F.taken shelf.new }
+    ensures fetches { OnErr result ((name : List ℕ) × (schedule_of command.now ≡ Some name) × Fetches name (2 ^ 26) (shelf_seen F.files F.faults F.taken shelf.old shelf.new)) }
+    ensures text { IfOk result (λ t. HasSchedule (shelf_seen F.files F.faults F.taken shelf.old shelf.new) (schedule_of command.now) (option_map (λ v. v.items) t)) }
+    ensures unread { (status : Status) → result ≡ Err (Unread.Said status) → (name : List ℕ) × (schedule_of command.now ≡ Some name) × IsUnreadAt name (2 ^ 26) (shelf_seen F.files F.faults F.taken shelf.old shelf.new) status }
 {
     match command.schedule() {
         Some(name) => {
@@ -109,9 +104,9 @@ pub(crate) fn fetch_texts<F: Shelf>(
     command: &Command,
     shelf: &mut F,
 ) -> Result<Texts, Unread>
-    ensures text { IfOk result (λ t. Has (record { files = F.files shelf.old; faults_before = F.faults shelf.old; faults_after = F.faults shelf.new; taken_before = F.taken shelf.old; taken_after = F.taken shelf.new }) (file_in command.now) (limit_in command.now) t.text.items) }
-    ensures schedule { IfOk result (λ t. HasSchedule (record { files = F.files shelf.old; faults_before = F.faults shelf.old; faults_after = F.faults shelf.new; taken_before = F.taken shelf.old; taken_after = F.taken shelf.new }) (schedule_of command.now) (option_map (λ v. v.items) t.schedule)) }
-    ensures unread { (status : Status) → result ≡ Err (Unread.Said status) → IsUnread command.now (record { files = F.files shelf.old; faults_before = F.faults shelf.old; faults_after = F.faults shelf.new; taken_before = F.taken shelf.old; taken_after = F.taken shelf.new }) status }
+    ensures fetched { MayHaveFetched (Some command.now) (shelf_seen F.files F.faults F.taken shelf.old shelf.new) }
+    ensures texts { IfOk result (λ t. AreRead command.now (shelf_seen F.files F.faults F.taken shelf.old shelf.new) t.text.items (option_map (λ v. v.items) t.schedule)) }
+    ensures unread { (status : Status) → result ≡ Err (Unread.Said status) → IsUnread command.now (shelf_seen F.files F.faults F.taken shelf.old shelf.new) status }
 {
     let text = match fetch_text(alloc, command.file(), limit(command), shelf) {
         Ok(text) => text,
@@ -119,6 +114,9 @@ pub(crate) fn fetch_texts<F: Shelf>(
     };
     match fetch_schedule(alloc, command, shelf) {
         Ok(schedule) => Ok(Texts { text, schedule }),
-        Err(unread) => Err(unread),
+        Err(unread) => {
+            drop(text);
+            Err(unread)
+        }
     }
 }

@@ -3,7 +3,7 @@
 ghost use Rattle.std.specs.Prelude.{◌≡◌, ◌≤◌, ◌^◌, ℕ, List, [], Some, None, length, IfOk, MatchResult};
 ghost use Rattle.std.specs.Option.{option_map};
 ghost use Rattle.xc_top_words.specs.Commands.{options_in};
-ghost use Rattle.xc_top.specs.Judges.{IsSourceCode, IsRefusedSource, IsRefusedCode, StandsFor, IsRefused, Chooses, IsBadSchedule, status_of, with_choices, Executes, IsWritten, Judges};
+ghost use Rattle.xc_top.specs.Judges.{IsSourceCode, kind_of as kind_of_refusal, IsRefusedSource, IsRefusedCode, StandsFor, IsRefused, Chooses, IsBadSchedule, status_of, with_choices, Executes, IsWritten, Judges};
 ghost use Rattle.xc_top.specs.InnerJudges.{IsGiven, IsGivenTo};
 ghost use Rattle.xc_top.specs.Lines.{line_of};
 ghost use Rattle.xc_top.specs.Answers.{limit_in};
@@ -13,9 +13,10 @@ ghost use Rattle.xc_sched.specs.Runs.{Spells as SpellsSteps, IsSchedule};
 ghost use Rattle.xc_text_place.specs.declared.Pos.{Pos};
 
 use crate::lines::line;
-use crate::status::{Bad, FileKind, Numbers, Status};
+use crate::status::{Bad, FileKind, Numbers, Shown, Status, TrapShown};
 use std::alloc::{AllocError, Global};
-use xc_driver::{CompileFault, Compiled, compile};
+use xc_driver::{CompileFault, Compiled, RefusalKind, compile};
+use xc_hold::kept;
 use xc_isa::Code;
 use xc_isa_text::AsmFault;
 use xc_machine_play::{Ending, Outcome, Source, play};
@@ -50,7 +51,7 @@ impl From<AllocError> for CodeFault {
 }
 
 /// The code of assembly.
-fn assembled(alloc: Global, text: &[u8]) -> Result<Code, CodeFault>
+fn assembly_code(alloc: Global, text: &[u8]) -> Result<Code, CodeFault>
     requires { length text.now ≤ 2 ^ 26 }
     ensures { MatchResult result (λ code. Spells text.now (contents_of code))
         (λ e. (kind : FileKind) → (at : Pos) → e ≡ CodeFault.Refused kind at → IsRefusedCode text.now kind at) }
@@ -65,16 +66,34 @@ fn assembled(alloc: Global, text: &[u8]) -> Result<Code, CodeFault>
     }
 }
 
+/// How the reason why a source has no code is told.
+fn kind_of(kind: RefusalKind) -> FileKind
+    ensures { result ≡ kind_of_refusal kind }
+{
+    match kind {
+        RefusalKind::Lex => FileKind::Lex,
+        RefusalKind::Syntax => FileKind::Syntax,
+        RefusalKind::Depth => FileKind::Depth,
+        RefusalKind::Name => FileKind::Name,
+        RefusalKind::Typing => FileKind::Typing,
+        RefusalKind::Count => FileKind::Count,
+        RefusalKind::Unbuilt => FileKind::Unbuilt,
+    }
+}
+
 /// The code of a source.
-fn compiled(alloc: Global, text: &[u8]) -> Result<Code, CodeFault>
+fn source_code(alloc: Global, text: &[u8]) -> Result<Code, CodeFault>
     requires { length text.now ≤ 2 ^ 20 }
     ensures { MatchResult result (λ code. IsSourceCode text.now code)
         (λ e. (kind : FileKind) → (at : Pos) → e ≡ CodeFault.Refused kind at → IsRefusedSource text.now kind at) }
 {
     match compile(alloc, text) {
-        Ok(Compiled { tree: _, code }) => Ok(code),
+        Ok(Compiled { tree, code }) => {
+            drop(tree);
+            Ok(code)
+        }
         Err(CompileFault::Refused(refusal)) => Err(CodeFault::Refused {
-            kind: FileKind::Source(refusal.kind),
+            kind: kind_of(refusal.kind),
             at: refusal.at,
         }),
         Err(CompileFault::NoMemory) => Err(CodeFault::NoMemory),
@@ -88,8 +107,8 @@ fn code_in(alloc: Global, command: &Command, text: &[u8]) -> Result<Code, CodeFa
         (λ e. (kind : FileKind) → (at : Pos) → e ≡ CodeFault.Refused kind at → IsRefused command.now text.now kind at) }
 {
     match command {
-        Command::Run { .. } | Command::Compile { .. } => compiled(alloc, text),
-        Command::Exec { .. } => assembled(alloc, text),
+        Command::Run { .. } | Command::Compile { .. } => source_code(alloc, text),
+        Command::Exec { .. } => assembly_code(alloc, text),
     }
 }
 
@@ -134,15 +153,18 @@ fn status(ending: Ending, numbers: Numbers) -> Status
     ensures { result ≡ status_of ending numbers }
 {
     match ending {
-        Ending::Ended => Status::Ok(numbers),
-        Ending::Left | Ending::BadChoice => Status::BadSchedule(Bad::Entry(numbers)),
+        Ending::Ended => Status::Ok(Shown::Ran(numbers)),
+        Ending::Left | Ending::BadChoice => Status::BadSchedule(Bad::Entry {
+            step: numbers.steps,
+            numbers,
+        }),
         Ending::Stuck => Status::Stuck(numbers),
-        Ending::Unfinished => Status::Unfinished(numbers),
-        Ending::Trap { kind, stream } => Status::Trap {
+        Ending::Unfinished => Status::Unfinished(Some(numbers)),
+        Ending::Trap { kind, stream } => Status::Trap(Some(TrapShown {
             kind,
             stream,
             numbers,
-        },
+        })),
         Ending::WordsFull { live, asked } => Status::WordsFull {
             live,
             asked,
@@ -157,11 +179,10 @@ fn status(ending: Ending, numbers: Numbers) -> Status
 }
 
 /// A status alone, with its line.
-pub(crate) fn said(alloc: Global, status: Status) -> Result<Plan, AllocError>
+pub(crate) fn say(alloc: Global, status: Status) -> Result<Plan, AllocError>
     ensures { IfOk result (λ p. (p.status ≡ status) × (p.out.items ≡ []) × (p.err.items ≡ line_of status)) }
 {
-    let line = line(alloc, &status)?;
-    let err = Vec::from_slice(alloc, line.as_bytes())?;
+    let (err, status) = kept(line(alloc, &status), status)?;
     Ok(Plan {
         status,
         out: Vec::new(alloc),
@@ -169,15 +190,31 @@ pub(crate) fn said(alloc: Global, status: Status) -> Result<Plan, AllocError>
     })
 }
 
-fn refused(alloc: Global, name: &Name, kind: FileKind, at: Pos) -> Result<Plan, AllocError>
+/// The file is not what the command takes.
+fn refuse(alloc: Global, name: &Name, kind: FileKind, at: Pos) -> Result<Plan, AllocError>
     ensures { IfOk result (λ p. (p.status ≡ Status.Refused name.now kind at) × (p.out.items ≡ []) × (p.err.items ≡ line_of (Status.Refused name.now kind at))) }
 {
     let name = Name::new(alloc, name.as_str())?;
-    said(alloc, Status::Refused { name, kind, at })
+    say(alloc, Status::Refused { name, kind, at })
+}
+
+/// The line of a status, and the choices behind it where they are wanted.
+fn line_and_choices(
+    alloc: Global,
+    status: &Status,
+    choices: &Option<Vec<u8>>,
+) -> Result<Vec<u8>, AllocError>
+    ensures { IfOk result (λ text. text.items ≡ with_choices (line_of status.now) (option_map (λ v. v.items) choices.now)) }
+{
+    let mut text = line(alloc, status)?;
+    if let Some(choices) = choices {
+        text.extend_from_slice(choices.as_slice())?;
+    }
+    Ok(text)
 }
 
 /// The end of a run.
-fn ran(alloc: Global, outcome: Outcome, streams: u32) -> Result<Plan, AllocError>
+fn plan_of_run(alloc: Global, outcome: Outcome, streams: u32) -> Result<Plan, AllocError>
     ensures { IfOk result (λ p. (p.status ≡ status_of outcome.ending (record { steps = outcome.steps; streams = streams })) × (p.out.items ≡ outcome.out.items) × (p.err.items ≡ with_choices (line_of (status_of outcome.ending (record { steps = outcome.steps; streams = streams }))) (option_map (λ v. v.items) outcome.choices))) }
 {
     let Outcome {
@@ -187,16 +224,14 @@ fn ran(alloc: Global, outcome: Outcome, streams: u32) -> Result<Plan, AllocError
         choices,
     } = outcome;
     let status = status(ending, Numbers { steps, streams });
-    let line = line(alloc, &status)?;
-    let mut err = Vec::from_slice(alloc, line.as_bytes())?;
-    if let Some(choices) = choices {
-        err.extend_from_slice(choices.as_slice())?;
-    }
+    let text = line_and_choices(alloc, &status, &choices);
+    drop(choices);
+    let (err, (status, out)) = kept(text, (status, out))?;
     Ok(Plan { status, out, err })
 }
 
 /// What comes of code that is run as these options say.
-fn executed(
+fn execute(
     alloc: Global,
     code: &Code,
     options: &Options,
@@ -208,22 +243,40 @@ fn executed(
     match source_in(alloc, &options.choice, schedule)? {
         Ok(source) => {
             let outcome = play(alloc, code, options, source)?;
-            ran(alloc, outcome, options.streams.number() as u32)
+            plan_of_run(alloc, outcome, options.streams.number() as u32)
         }
-        Err(bad) => said(alloc, Status::BadSchedule(bad)),
+        Err(bad) => say(alloc, Status::BadSchedule(bad)),
     }
 }
 
 /// The assembly of code.
-fn written(alloc: Global, code: &Code) -> Result<Plan, AllocError>
+fn write_code(alloc: Global, code: &Code) -> Result<Plan, AllocError>
     ensures { IfOk result (λ p. IsWritten code.now p.status p.out.items p.err.items) }
 {
     let out = xc_isa_text::print(alloc, code)?;
     Ok(Plan {
-        status: Status::Compiled,
+        status: Status::Ok(Shown::Nothing),
         out,
         err: Vec::new(alloc),
     })
+}
+
+/// What a command answers to the code of its file.
+fn plan_of_code(
+    alloc: Global,
+    command: &Command,
+    text: &[u8],
+    code: &Code,
+    schedule: &Option<Vec<u8>>,
+) -> Result<Plan, AllocError>
+    requires code { StandsFor command.now text.now code.now }
+    requires given { IsGivenTo (options_in command.now) (option_map (λ v. v.items) schedule.now) }
+    ensures { IfOk result (λ p. Judges command.now text.now (option_map (λ v. v.items) schedule.now) p.status p.out.items p.err.items) }
+{
+    match command.options() {
+        Some(options) => execute(alloc, code, options, schedule),
+        None => write_code(alloc, code),
+    }
 }
 
 /// What a command answers to the texts of its files: the file's, and that of a schedule where one is named.
@@ -238,11 +291,12 @@ pub(crate) fn judge(
     ensures { IfOk result (λ p. Judges command.now text.now (option_map (λ v. v.items) schedule.now) p.status p.out.items p.err.items) }
 {
     match code_in(alloc, command, text) {
-        Ok(code) => match command.options() {
-            Some(options) => executed(alloc, &code, options, schedule),
-            None => written(alloc, &code),
-        },
-        Err(CodeFault::Refused { kind, at }) => refused(alloc, command.file(), kind, at),
+        Ok(code) => {
+            let plan = plan_of_code(alloc, command, text, &code, schedule);
+            drop(code);
+            plan
+        }
+        Err(CodeFault::Refused { kind, at }) => refuse(alloc, command.file(), kind, at),
         Err(CodeFault::NoMemory) => Err(AllocError),
     }
 }

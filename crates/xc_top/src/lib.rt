@@ -7,6 +7,6 @@ mod lines;
 mod status;
 mod top;
 
-pub use status::{Bad, FileKind, Numbers, Status};
+pub use status::{Bad, FileKind, Numbers, Shown, Status, TrapShown};
 pub use top::xmtc;
 pub use xc_top_words::Name;

@@ -1,57 +1,64 @@
 //! The lines on err.
 
-ghost use Rattle.std.specs.Prelude.{◌≡◌, ◌++◌, string_bytes, IfOk, OnOk, codes, decimal};
-ghost use Rattle.xc_top.specs.Lines.{kind_text as kind_text_of, refusal_text as refusal_text_of, trap_text as trap_text_of, number_text, numbers_text, place_text, bad_line_of, line_of};
+ghost use Rattle.std.specs.Prelude.{◌≡◌, ◌++◌, Some, string_bytes, IfOk, OnOk, codes, decimal};
+ghost use Rattle.xc_top.specs.Lines.{kind_text as kind_text_of, trap_text as trap_text_of, number_text, numbers_text, place_text, shown_line_of, trap_line_of, unfinished_line_of, bad_line_of, line_of};
 
-use crate::status::{Bad, FileKind, Numbers, Status};
+use crate::status::{Bad, FileKind, Numbers, Shown, Status, TrapShown};
 use itoa::Buffer;
 use std::alloc::{AllocError, Global};
-use xc_driver::RefusalKind;
 use xc_isa::TrapKind;
 
 /// The line that takes no memory.
 pub(crate) const NO_MEMORY: &str = "xmtc: no memory\n";
 
-/// The line of a status, with its line feed; assembly that was written has none, nor has a failed write.
-pub(crate) fn line(alloc: Global, status: &Status) -> Result<String, AllocError>
-    ensures { IfOk result (λ l. string_bytes l ≡ line_of status.now) }
+/// The line of a status, with its line feed; a text that was written has none, nor has a failed write.
+pub(crate) fn line(alloc: Global, status: &Status) -> Result<Vec<u8>, AllocError>
+    ensures { IfOk result (λ l. l.items ≡ line_of status.now) }
+{
+    let mut line = String::new(alloc);
+    push_line(&mut line, status)?;
+    Ok(line.into_bytes())
+}
+
+fn push_line(line: &mut String, status: &Status) -> Result<(), AllocError>
+    ensures { OnOk result (string_bytes line.new ≡ string_bytes line.old ++ line_of status.now) }
 {
     match status {
-        Status::Ok(numbers) => ended(alloc, "ended", *numbers),
-        Status::ReadFault(name) => about(alloc, "xmtc: cannot read ", name.as_str(), "\n"),
-        Status::Compiled | Status::WriteFault => String::from_str(alloc, ""),
-        Status::Usage => String::from_str(alloc, "usage: xmtc COMMAND [OPTIONS] FILE\n"),
-        Status::Long(name) => about(alloc, "xmtc: ", name.as_str(), ": too long\n"),
+        Status::Ok(shown) => push_shown(line, shown),
+        Status::ReadFault(name) => push_about(line, "xmtc: cannot read ", name.as_str(), "\n"),
+        Status::WriteFault => Ok(()),
+        Status::Usage => push_text(line, "usage: xmtc COMMAND [OPTIONS] FILE\n"),
+        Status::Long(name) => push_about(line, "xmtc: ", name.as_str(), ": too long\n"),
         Status::Refused { name, kind, at } => {
-            at_place(alloc, name.as_str(), at.line, at.col, kind_text(*kind))
+            push_place(line, name.as_str(), at.line, at.col, kind_text(*kind))
         }
-        Status::Trap {
-            kind,
-            stream,
-            numbers,
-        } => trapped(alloc, *kind, *stream, *numbers),
-        Status::Unfinished(numbers) => ended(alloc, "unfinished", *numbers),
-        Status::Stuck(numbers) => ended(alloc, "stuck", *numbers),
-        Status::BadSchedule(bad) => bad_schedule(alloc, bad),
+        Status::Trap(shown) => push_trap(line, shown),
+        Status::Unfinished(numbers) => push_unfinished(line, numbers),
+        Status::Stuck(numbers) => push_end(line, "stuck", *numbers),
+        Status::BadSchedule(bad) => push_bad(line, bad),
         Status::WordsFull {
             live,
             asked,
             numbers,
-        } => full(alloc, "words live=", *live, " asked=", *asked, *numbers),
+        } => push_full(line, ("words live=", *live), (" asked=", *asked), *numbers),
         Status::OutFull {
             length,
             piece,
             numbers,
-        } => full(
-            alloc,
-            "output length=",
-            *length,
-            " piece=",
-            *piece,
+        } => push_full(
+            line,
+            ("output length=", *length),
+            (" piece=", *piece),
             *numbers,
         ),
-        Status::NoMemory => String::from_str(alloc, NO_MEMORY),
+        Status::NoMemory => push_text(line, NO_MEMORY),
     }
+}
+
+fn push_text(line: &mut String, text: &str) -> Result<(), AllocError>
+    ensures { OnOk result (string_bytes line.new ≡ string_bytes line.old ++ text.now) }
+{
+    line.push_str(text)
 }
 
 /// Writes a number behind its name.
@@ -59,8 +66,7 @@ fn push_number(line: &mut String, name: &str, number: u64) -> Result<(), AllocEr
     ensures { OnOk result (string_bytes line.new ≡ string_bytes line.old ++ number_text name.now number) }
 {
     line.push_str(name)?;
-    line.push_str(Buffer::new().format(number))?;
-    Ok(())
+    line.push_str(Buffer::new().format(number))
 }
 
 /// Writes the end of a line about a run.
@@ -69,114 +75,126 @@ fn push_numbers(line: &mut String, numbers: Numbers) -> Result<(), AllocError>
 {
     push_number(line, " steps=", numbers.steps)?;
     push_number(line, " streams=", u64::from(numbers.streams))?;
-    line.push_str("\n")?;
-    Ok(())
+    line.push_str("\n")
 }
 
-fn ended(alloc: Global, how: &str, numbers: Numbers) -> Result<String, AllocError>
-    ensures { IfOk result (λ l. string_bytes l ≡ how.now ++ numbers_text numbers) }
+/// Writes how a run ended.
+fn push_end(line: &mut String, how: &str, numbers: Numbers) -> Result<(), AllocError>
+    ensures { OnOk result (string_bytes line.new ≡ string_bytes line.old ++ (how.now ++ numbers_text numbers)) }
 {
-    let mut line = String::from_str(alloc, how)?;
-    push_numbers(&mut line, numbers)?;
-    Ok(line)
+    line.push_str(how)?;
+    push_numbers(line, numbers)
 }
 
-fn trapped(
-    alloc: Global,
-    kind: TrapKind,
-    stream: u32,
-    numbers: Numbers,
-) -> Result<String, AllocError>
-    ensures { IfOk result (λ l. string_bytes l ≡ codes "trap " ++ trap_text_of kind ++ number_text (codes " stream=") stream ++ numbers_text numbers) }
+/// Writes that the work is done.
+fn push_shown(line: &mut String, shown: &Shown) -> Result<(), AllocError>
+    ensures { OnOk result (string_bytes line.new ≡ string_bytes line.old ++ shown_line_of shown.now) }
 {
-    let mut line = String::from_str(alloc, "trap ")?;
-    line.push_str(trap_text(kind))?;
-    push_number(&mut line, " stream=", u64::from(stream))?;
-    push_numbers(&mut line, numbers)?;
-    Ok(line)
+    match shown {
+        Shown::Ran(numbers) => push_end(line, "ended", *numbers),
+        Shown::Nothing => Ok(()),
+    }
 }
 
-fn full(
-    alloc: Global,
-    first: &str,
-    there: u64,
-    second: &str,
-    more: u64,
-    numbers: Numbers,
-) -> Result<String, AllocError>
-    ensures { IfOk result (λ l. string_bytes l ≡ number_text first.now there ++ number_text second.now more ++ numbers_text numbers) }
+fn push_unfinished(line: &mut String, numbers: &Option<Numbers>) -> Result<(), AllocError>
+    ensures { OnOk result (string_bytes line.new ≡ string_bytes line.old ++ unfinished_line_of numbers.now) }
 {
-    let mut line = String::new(alloc);
-    push_number(&mut line, first, there)?;
-    push_number(&mut line, second, more)?;
-    push_numbers(&mut line, numbers)?;
-    Ok(line)
+    match numbers {
+        None => line.push_str("unfinished\n"),
+        Some(numbers) => push_end(line, "unfinished", *numbers),
+    }
 }
 
-fn bad_schedule(alloc: Global, bad: &Bad) -> Result<String, AllocError>
-    ensures { IfOk result (λ l. string_bytes l ≡ bad_line_of bad.now) }
+fn push_trap(line: &mut String, shown: &Option<TrapShown>) -> Result<(), AllocError>
+    ensures { OnOk result (string_bytes line.new ≡ string_bytes line.old ++ trap_line_of shown.now) }
+{
+    match shown {
+        None => line.push_str("trap\n"),
+        Some(shown) => push_trapped(line, shown),
+    }
+}
+
+fn push_trapped(line: &mut String, shown: &TrapShown) -> Result<(), AllocError>
+    ensures { OnOk result (string_bytes line.new ≡ string_bytes line.old ++ trap_line_of (Some shown.now)) }
+{
+    line.push_str("trap ")?;
+    line.push_str(trap_text(shown.kind))?;
+    push_number(line, " stream=", u64::from(shown.stream))?;
+    push_numbers(line, shown.numbers)
+}
+
+fn push_bad(line: &mut String, bad: &Bad) -> Result<(), AllocError>
+    ensures { OnOk result (string_bytes line.new ≡ string_bytes line.old ++ bad_line_of bad.now) }
 {
     match bad {
-        Bad::Line { name, line } => at_place(alloc, name.as_str(), *line, 1, "schedule"),
-        Bad::Entry(numbers) => {
-            let mut line = String::new(alloc);
-            push_number(&mut line, "badchoice step=", numbers.steps)?;
-            push_numbers(&mut line, *numbers)?;
-            Ok(line)
-        }
+        Bad::Line { name, line: at } => push_place(line, name.as_str(), *at, 1, "schedule"),
+        Bad::Entry { step, numbers } => push_count(line, "badchoice step=", *step, *numbers),
     }
 }
 
-/// A line about a file.
-fn about(alloc: Global, before: &str, name: &str, after: &str) -> Result<String, AllocError>
-    ensures { IfOk result (λ l. string_bytes l ≡ before.now ++ name.now ++ after.now) }
+/// Writes a number behind its name, and the end of a line about a run.
+fn push_count(
+    line: &mut String,
+    name: &str,
+    number: u64,
+    numbers: Numbers,
+) -> Result<(), AllocError>
+    ensures { OnOk result (string_bytes line.new ≡ string_bytes line.old ++ (number_text name.now number ++ numbers_text numbers)) }
 {
-    let mut line = String::from_str(alloc, before)?;
-    line.push_str(name)?;
-    line.push_str(after)?;
-    Ok(line)
+    push_number(line, name, number)?;
+    push_numbers(line, numbers)
 }
 
-/// A line about a place in a file.
-fn at_place(
-    alloc: Global,
+/// Writes what is there and what is asked for besides, each behind its name.
+fn push_full(
+    line: &mut String,
+    there: (&str, u64),
+    asked: (&str, u64),
+    numbers: Numbers,
+) -> Result<(), AllocError>
+    ensures { OnOk result (string_bytes line.new ≡ string_bytes line.old ++ (number_text there.entry.0.now there.entry.1 ++ number_text asked.entry.0.now asked.entry.1 ++ numbers_text numbers)) }
+{
+    push_number(line, there.0, there.1)?;
+    push_count(line, asked.0, asked.1, numbers)
+}
+
+/// Writes a line about a file.
+fn push_about(line: &mut String, before: &str, name: &str, after: &str) -> Result<(), AllocError>
+    ensures { OnOk result (string_bytes line.new ≡ string_bytes line.old ++ (before.now ++ name.now ++ after.now)) }
+{
+    line.push_str(before)?;
+    line.push_str(name)?;
+    line.push_str(after)
+}
+
+/// Writes a line about a place in a file.
+fn push_place(
+    line: &mut String,
     name: &str,
-    line_number: u32,
+    at: u32,
     column: u32,
     what: &str,
-) -> Result<String, AllocError>
-    ensures { IfOk result (λ l. string_bytes l ≡ place_text name.now line_number column what.now) }
+) -> Result<(), AllocError>
+    ensures { OnOk result (string_bytes line.new ≡ string_bytes line.old ++ place_text name.now at column what.now) }
 {
-    let mut line = String::from_str(alloc, "xmtc: ")?;
-    line.push_str(name)?;
-    push_number(&mut line, ":", u64::from(line_number))?;
-    push_number(&mut line, ":", u64::from(column))?;
-    line.push_str(": ")?;
-    line.push_str(what)?;
-    line.push_str("\n")?;
-    Ok(line)
-}
-
-fn refusal_text(kind: RefusalKind) -> &'static str
-    ensures { result.now ≡ refusal_text_of kind }
-{
-    match kind {
-        RefusalKind::Lex => "lex",
-        RefusalKind::Syntax => "syntax",
-        RefusalKind::Depth => "depth",
-        RefusalKind::Name => "name",
-        RefusalKind::Typing => "type",
-        RefusalKind::Count => "count",
-        RefusalKind::Unbuilt => "unbuilt",
-    }
+    push_about(line, "xmtc: ", name, "")?;
+    push_number(line, ":", u64::from(at))?;
+    push_number(line, ":", u64::from(column))?;
+    push_about(line, ": ", what, "\n")
 }
 
 fn kind_text(kind: FileKind) -> &'static str
     ensures { result.now ≡ kind_text_of kind }
 {
     match kind {
+        FileKind::Lex => "lex",
+        FileKind::Syntax => "syntax",
+        FileKind::Depth => "depth",
+        FileKind::Name => "name",
+        FileKind::Typing => "type",
+        FileKind::Count => "count",
         FileKind::Asm => "asm",
-        FileKind::Source(kind) => refusal_text(kind),
+        FileKind::Unbuilt => "unbuilt",
     }
 }
 

@@ -3,7 +3,6 @@
 ghost use Rattle.std.specs.Prelude.{◌≡◌};
 ghost use Rattle.xc_top.specs.Codes.{code_of};
 
-use xc_driver::RefusalKind;
 use xc_isa::TrapKind;
 use xc_text_place::Pos;
 use xc_top_words::Name;
@@ -11,10 +10,22 @@ use xc_top_words::Name;
 /// Why a file is refused.
 #[derive(Clone, Copy)]
 pub enum FileKind {
+    /// The text has no tokens.
+    Lex,
+    /// The tokens have no tree.
+    Syntax,
+    /// A node is too deep.
+    Depth,
+    /// A rule of names is broken.
+    Name,
+    /// A rule of types is broken.
+    Typing,
+    /// A loop, a global or an argument of `printf` is one too many.
+    Count,
     /// The text is no assembly.
     Asm,
-    /// The text is no program that is translated today.
-    Source(RefusalKind),
+    /// The program is well typed, and has a form that is not translated yet.
+    Unbuilt,
 }
 
 /// What a run made of steps, on how many streams.
@@ -24,22 +35,37 @@ pub struct Numbers {
     pub streams: u32,
 }
 
+/// What is told of work that is done.
+#[derive(Clone, Copy)]
+pub enum Shown {
+    /// A run that ended.
+    Ran(Numbers),
+    /// A text that was written.
+    Nothing,
+}
+
+/// A step that traps, after so many steps of a run.
+#[derive(Clone, Copy)]
+pub struct TrapShown {
+    pub kind: TrapKind,
+    pub stream: u32,
+    pub numbers: Numbers,
+}
+
 /// What is wrong with a schedule.
 #[derive(Drop)]
 pub enum Bad {
     /// The text of the file is no schedule: its first bad line.
     Line { name: Name, line: u32 },
     /// After so many steps it names a stream that is not ready, or is not used up.
-    Entry(Numbers),
+    Entry { step: u64, numbers: Numbers },
 }
 
 /// How the top call ended.
 #[derive(Drop)]
 pub enum Status {
-    /// The run ended, and all was written.
-    Ok(Numbers),
-    /// The assembly was written.
-    Compiled,
+    /// The work is done, and all was written.
+    Ok(Shown),
     /// The file could not be read.
     ReadFault(Name),
     /// The work is done, and not all could be written.
@@ -54,14 +80,10 @@ pub enum Status {
         kind: FileKind,
         at: Pos,
     },
-    /// The step of a stream traps.
-    Trap {
-        kind: TrapKind,
-        stream: u32,
-        numbers: Numbers,
-    },
+    /// A step traps. None: of a command that has no steps.
+    Trap(Option<TrapShown>),
     /// As many steps were made as were allowed, or the schedule was used up, and a stream is ready.
-    Unfinished(Numbers),
+    Unfinished(Option<Numbers>),
     /// A stream has not ended, and none is ready.
     Stuck(Numbers),
     BadSchedule(Bad),
@@ -87,11 +109,11 @@ impl Status {
         ensures { result ≡ code_of self.now }
     {
         match self {
-            Status::Ok(_) | Status::Compiled => 0,
+            Status::Ok(_) => 0,
             Status::ReadFault(_) | Status::WriteFault => 1,
             Status::Usage => 2,
             Status::Long(_) | Status::Refused { .. } => 3,
-            Status::Trap { .. } => 4,
+            Status::Trap(_) => 4,
             Status::Unfinished(_) => 5,
             Status::Stuck(_) => 6,
             Status::BadSchedule(_) => 7,

@@ -1,6 +1,6 @@
 ghost use Rattle.std.specs.Prelude.{◌≡◌, None, map, string_bytes};
 ghost use Rattle.xc_top_words.specs.Words.{command_of};
-ghost use Rattle.xc_top.specs.Seen.{ShelfSeen, SinkSeen};
+ghost use Rattle.xc_top.specs.Seen.{shelf_seen, sink_seen};
 ghost use Rattle.xc_top.specs.Answers.{Tells};
 
 use std::alloc::Global;
@@ -14,7 +14,7 @@ pub fn answer<F: Shelf, O: Sink, E: Sink>(
     out: &mut O,
     err: &mut E,
 ) -> Status
-    ensures tells { Tells (command_of (map string_bytes words.now)) (record { files = F.files shelf.old; faults_before = F.faults shelf.old; faults_after = F.faults shelf.new; taken_before = F.taken shelf.old; taken_after = F.taken shelf.new }) (record { before = O.written out.old; after = O.written out.new; faults_before = O.faults out.old; faults_after = O.faults out.new }) (record { before = E.written err.old; after = E.written err.new; faults_before = E.faults err.old; faults_after = E.faults err.new }) result }
+    ensures tells { Tells (command_of (map string_bytes words.now)) (shelf_seen F.files F.faults F.taken shelf.old shelf.new) (sink_seen O.written O.faults out.old out.new) (sink_seen E.written E.faults err.old err.new) result }
     ensures usage { command_of (map string_bytes words.now) ≡ None → shelf.new ≡ shelf.old }
 {
     xmtc(alloc, words, shelf, out, err)

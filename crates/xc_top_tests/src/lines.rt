@@ -28,10 +28,11 @@ const TWO: &str =
 
 const USAGE: &str = "usage: xmtc COMMAND [OPTIONS] FILE\n";
 
-/// Runs a command line over files; the puts on out with the numbers in `failing` fail.
+/// Runs a command line over files; `''` in it is the empty word, and the puts on out with the numbers in `failing` fail.
 fn run(alloc: Global, line: &str, files: &[(&str, &str)], failing: &[u64]) -> Result<Left, Fail> {
     let mut words = Vec::new(alloc);
     for word in line.split_whitespace() {
+        let word = if word == "''" { "" } else { word };
         words.push(String::from_str(alloc, word)?)?;
     }
     let mut kept = Vec::new(alloc);
@@ -433,6 +434,22 @@ fn assembly(rt: HostRuntime) -> Result<(), Fail> {
             "ended steps=4 streams=1\n",
         ),
         (
+            "exec a.s --streams=1",
+            TWO,
+            "",
+            0,
+            "aa",
+            "ended steps=4 streams=1\n",
+        ),
+        (
+            "exec a.s --schedule=s --",
+            E1,
+            "0 3\n",
+            0,
+            "14\n",
+            "ended steps=3 streams=8\n",
+        ),
+        (
             "exec --streams 2 a.s",
             TWO,
             "",
@@ -462,21 +479,35 @@ fn words_that_are_no_command(rt: HostRuntime) -> Result<(), Fail> {
         "exec",
         "compile",
         "halt a.s",
+        "''",
+        "--help",
         "run --help",
+        "exec --help a.s",
+        "exec a.s --help",
+        "exec -h a.s",
+        "exec --version a.s",
         "exec a.s b.s",
+        "exec a.s -- b.s",
+        "exec ''",
         "exec --streams 0 a.s",
         "exec --streams 1025 a.s",
         "exec --streams 08 a.s",
         "exec --streams +8 a.s",
         "exec --streams= a.s",
+        "exec --streams '' a.s",
+        "exec --streams=1=1 a.s",
+        "exec --streams -- a.s",
+        "exec --stream 8 a.s",
         "exec a.s --streams",
         "exec --streams --record a.s",
         "exec --streams 8 --streams 8 a.s",
+        "exec --streams 8 a.s --streams=8",
         "exec --seed 18446744073709551616 a.s",
         "exec --seed 1 --seed 1 a.s",
         "exec --seed 1 --schedule s a.s",
         "exec --schedule -s a.s",
         "exec --schedule= a.s",
+        "exec --schedule '' a.s",
         "exec --steps 2147483649 a.s",
         "exec --steps 5 --steps=5 a.s",
         "exec --words 0 a.s",
@@ -491,17 +522,51 @@ fn words_that_are_no_command(rt: HostRuntime) -> Result<(), Fail> {
         "compile a.s a.s",
         "compile -a",
         "compile --",
+        "compile --help",
+        "compile ''",
     ];
     check_usage(&rt, rt.alloc(), &lines)
 }
 
 #[test]
-fn behind_two_dashes_a_word_is_a_name(rt: HostRuntime) -> Result<(), Fail> {
-    let left = run(rt.alloc(), "exec -- --record", &[("a.s", E1)], &[])?;
-    let fits = left.is(1, "", "xmtc: cannot read --record\n");
-    drop(left);
-    assert!(rt; fits);
-    Ok(())
+fn names_that_begin_with_a_dash(rt: HostRuntime) -> Result<(), Fail> {
+    let rows = [
+        (
+            "exec -- --record",
+            E1,
+            "",
+            1,
+            "",
+            "xmtc: cannot read --record\n",
+        ),
+        (
+            "exec --seed 1 -- -s",
+            E1,
+            "",
+            1,
+            "",
+            "xmtc: cannot read -s\n",
+        ),
+        ("compile -- --", E1, "", 1, "", "xmtc: cannot read --\n"),
+        ("exec -", E1, "", 1, "", "xmtc: cannot read -\n"),
+        (
+            "exec --schedule - a.s",
+            E1,
+            "",
+            1,
+            "",
+            "xmtc: cannot read -\n",
+        ),
+        (
+            "exec --schedule=-s a.s",
+            E1,
+            "",
+            1,
+            "",
+            "xmtc: cannot read -s\n",
+        ),
+    ];
+    check(&rt, rt.alloc(), &rows)
 }
 
 /// Whether a run of two streams by a seed is the same again by its record.

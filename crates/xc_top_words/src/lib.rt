@@ -2,8 +2,8 @@
 #![tactic(auto)]
 
 mod command;
-mod given;
-mod options;
+mod line;
+mod values;
 mod within;
 mod words;
 

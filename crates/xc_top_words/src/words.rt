@@ -1,19 +1,23 @@
 //! The words of the command line.
 
-ghost use Rattle.std.specs.Prelude.{◌≡◌, Some, None, map, string_bytes, MatchResult};
-ghost use Rattle.xc_top_words.specs.Words.{all_given as all_given_by, nothing_given, request_of, name_of, plain_name as plain_name_of, file_of as file_of_words, command_of};
+ghost use Rattle.std.specs.Prelude.{◌≡◌, Some, None, map, string_bytes, option_map, MatchResult};
+ghost use Rattle.xc_top_words.specs.Words.{request_of, source_of, command_of};
 
 use crate::command::{Command, Name, Options};
-use crate::given::Given;
-use crate::options::{is_dashed, name_in};
+use crate::line::{compile_line, parse, run_line};
+use crate::values::{file, options_and_file};
+use clap::error::ErrorKind;
 use std::alloc::{AllocError, Global};
+use thiserror::Error;
 
 /// Why no command was read.
-#[derive(Clone, Copy, PartialEq, Eq)]
+#[derive(Clone, Copy, Debug, PartialEq, Eq, Error)]
 pub enum WordsFault {
     /// The words are no command.
+    #[error("the words are no command")]
     Usage,
     /// The host's memory is used up.
+    #[error("no memory")]
     NoMemory,
 }
 
@@ -28,60 +32,62 @@ impl From<AllocError> for WordsFault {
     }
 }
 
-/// What the words say, one after another.
-fn all_given(alloc: Global, words: &[String]) -> Result<Given, WordsFault>
-    ensures { MatchResult result (λ g. all_given_by nothing_given (map string_bytes words.now) ≡ Some g)
-        (λ e. e ≡ WordsFault.Usage → all_given_by nothing_given (map string_bytes words.now) ≡ None) }
-{
-    let mut given = Given::new();
-    for word in words {
-        given.take(alloc, word.as_str())?;
+impl From<clap::Error> for WordsFault {
+    ghost use Rattle.std.specs.Prelude.{◌≡◌, ◌≢◌};
+    ghost use Rattle.clap.specs.Words.{kind_of};
+    ghost use Rattle.clap.specs.declared.error.kind.ErrorKind.TheVariants.{OutOfMemory};
+    ghost use Rattle.xc_top_words.specs.declared.words.WordsFault.TheVariants.{Usage};
+
+    ghost from_gives = { λ error e. e ≡ Usage → kind_of error ≢ OutOfMemory };
+
+    fn from(error: clap::Error) -> WordsFault {
+        match error.kind() {
+            ErrorKind::OutOfMemory => WordsFault::NoMemory,
+            _ => WordsFault::Usage,
+        }
     }
-    Ok(given)
 }
 
+/// The options and the file of a run.
 fn request(alloc: Global, words: &[String]) -> Result<(Options, Name), WordsFault>
     ensures { MatchResult result (λ r. request_of (map string_bytes words.now) ≡ Some r)
         (λ e. e ≡ WordsFault.Usage → request_of (map string_bytes words.now) ≡ None) }
 {
-    all_given(alloc, words)?.finish()
+    let matches = parse(run_line(alloc)?, words)?;
+    options_and_file(alloc, &matches)
 }
 
-fn name(alloc: Global, word: &str) -> Result<Name, WordsFault>
-    ensures { MatchResult result (λ n. name_of word.now ≡ Some n)
-        (λ e. e ≡ WordsFault.Usage → name_of word.now ≡ None) }
+fn run(alloc: Global, words: &[String]) -> Result<Command, WordsFault>
+    ensures { MatchResult result (λ c. option_map (λ r. Command.Run r.0 r.1) (request_of (map string_bytes words.now)) ≡ Some c)
+        (λ e. e ≡ WordsFault.Usage → option_map (λ r. Command.Run r.0 r.1) (request_of (map string_bytes words.now)) ≡ None) }
 {
-    name_in(alloc, word)?.ok_or(WordsFault::Usage)
+    let (options, file) = request(alloc, words)?;
+    Ok(Command::Run { options, file })
 }
 
-fn plain_name(alloc: Global, word: &str) -> Result<Name, WordsFault>
-    ensures { MatchResult result (λ n. plain_name_of word.now ≡ Some n)
-        (λ e. e ≡ WordsFault.Usage → plain_name_of word.now ≡ None) }
+fn exec(alloc: Global, words: &[String]) -> Result<Command, WordsFault>
+    ensures { MatchResult result (λ c. option_map (λ r. Command.Exec r.0 r.1) (request_of (map string_bytes words.now)) ≡ Some c)
+        (λ e. e ≡ WordsFault.Usage → option_map (λ r. Command.Exec r.0 r.1) (request_of (map string_bytes words.now)) ≡ None) }
 {
-    if is_dashed(word) {
-        return Err(WordsFault::Usage);
-    }
-    name(alloc, word)
+    let (options, file) = request(alloc, words)?;
+    Ok(Command::Exec { options, file })
 }
 
-/// The file that words without options name.
-fn file_of(alloc: Global, words: &[String]) -> Result<Name, WordsFault>
-    ensures { MatchResult result (λ n. file_of_words (map string_bytes words.now) ≡ Some n)
-        (λ e. e ≡ WordsFault.Usage → file_of_words (map string_bytes words.now) ≡ None) }
+/// The file that is compiled.
+fn source(alloc: Global, words: &[String]) -> Result<Name, WordsFault>
+    ensures { MatchResult result (λ n. source_of (map string_bytes words.now) ≡ Some n)
+        (λ e. e ≡ WordsFault.Usage → source_of (map string_bytes words.now) ≡ None) }
 {
-    match words {
-        [file] => plain_name(alloc, file.as_str()),
-        [first, second] => {
-            if first.as_str() == "--" {
-                name(alloc, second.as_str())
-            } else if second.as_str() == "--" {
-                plain_name(alloc, first.as_str())
-            } else {
-                Err(WordsFault::Usage)
-            }
-        }
-        _ => Err(WordsFault::Usage),
-    }
+    let matches = parse(compile_line(alloc)?, words)?;
+    file(alloc, &matches)
+}
+
+fn compile(alloc: Global, words: &[String]) -> Result<Command, WordsFault>
+    ensures { MatchResult result (λ c. option_map (λ f. Command.Compile f) (source_of (map string_bytes words.now)) ≡ Some c)
+        (λ e. e ≡ WordsFault.Usage → option_map (λ f. Command.Compile f) (source_of (map string_bytes words.now)) ≡ None) }
+{
+    let file = source(alloc, words)?;
+    Ok(Command::Compile { file })
 }
 
 /// The command that the words after the program's name say.
@@ -92,17 +98,10 @@ pub fn read_command(alloc: Global, words: &[String]) -> Result<Command, WordsFau
     let [command, rest @ ..] = words else {
         return Err(WordsFault::Usage);
     };
-    if command.as_str() == "run" {
-        let (options, file) = request(alloc, rest)?;
-        return Ok(Command::Run { options, file });
+    match command.as_str() {
+        "run" => run(alloc, rest),
+        "exec" => exec(alloc, rest),
+        "compile" => compile(alloc, rest),
+        _ => Err(WordsFault::Usage),
     }
-    if command.as_str() == "exec" {
-        let (options, file) = request(alloc, rest)?;
-        return Ok(Command::Exec { options, file });
-    }
-    if command.as_str() == "compile" {
-        let file = file_of(alloc, rest)?;
-        return Ok(Command::Compile { file });
-    }
-    Err(WordsFault::Usage)
 }

@@ -1,3 +1,5 @@
 mod Types
 mod Faults
 mod Trees
+mod OneText
+pub mod OneAnswer

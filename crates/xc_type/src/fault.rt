@@ -5,18 +5,23 @@ ghost use Rattle.xc_type.specs.Checked.{IsPlaced};
 ghost use Rattle.xc_type.specs.declared.fault.CheckFault.TheVariants.{NoMemory};
 
 use std::alloc::{AllocError, AllocFailed};
+use thiserror::Error;
 use xc_text_place::{Pos, position};
 use xc_type_rule::{Breach, Fault};
 
 /// Why a text has no typed tree: want of memory, or what it breaks first.
-#[derive(Clone, Copy)]
+#[derive(Clone, Copy, Debug, Error)]
 pub enum CheckFault {
+    #[error("no memory")]
     NoMemory,
     /// A name that is not declared, or that is declared a second time.
+    #[error("a name at line {line}, column {col}", line = .0.line, col = .0.col)]
     Name(Pos),
     /// A rule of types.
+    #[error("a type at line {line}, column {col}", line = .0.line, col = .0.col)]
     Typing(Pos),
     /// The first loop, global or argument of `printf` that is one too many, of a text without other faults.
+    #[error("one too many at line {line}, column {col}", line = .0.line, col = .0.col)]
     Count(Pos),
 }
 

@@ -34,16 +34,15 @@ use Rattle.xc_raw_parts.specs.Operators.{binary_operator, prefix_operator}
 use Rattle.xc_raw_parts.specs.Nodes.{by_nodes}
 use Rattle.xc_type_constants.specs.declared.part.Part.{Part}
 
--- what is known of a part: whether its type is unsigned, its value, whether no constant may hold it whatever its parts
--- are, and whether it and its parts are what a constant may hold ----------------
+-- what is known of a part: whether its type is unsigned, its value, and whether it and its parts are what a constant may
+-- hold ----------------------------------------------------------------------------
 
+-- no constant may hold it, whatever its parts are
 abbrev pub strange : Part
-strange = record { unsigned = None; value = None; strange = true; pure = false }
+strange = record { unsigned = None; value = None; pure = false }
 
--- a token that is no number is no constant
-abbrev pub token_part : Option Number → Part
-token_part None = strange
-token_part (Some n) = record { unsigned = Some n.unsigned; value = Some n.value; strange = false; pure = true }
+abbrev pub number_part : Number → Part
+number_part n = record { unsigned = Some n.unsigned; value = Some n.value; pure = true }
 
 -- `!` gives an `int`
 abbrev pub unary_unsigned : UnOp → Option Bool → Option Bool
@@ -51,7 +50,7 @@ unary_unsigned un.Not u = Some false
 unary_unsigned o u = u
 
 abbrev pub unary_part : UnOp → Part → Part
-unary_part o p = record { unsigned = unary_unsigned o p.unsigned; value = option_map (unary_word o) p.value; strange = false; pure = p.pure }
+unary_part o p = record { unsigned = unary_unsigned o p.unsigned; value = option_map (unary_word o) p.value; pure = p.pure }
 
 abbrev pub both : (Bool → Bool → Bool) → Option Bool → Option Bool → Option Bool
 both f (Some a) (Some b) = Some (f a b)
@@ -75,7 +74,6 @@ abbrev pub binary_part : BinOp → Part → Part → Part
 binary_part o p q = record {
   unsigned = both (gives_unsigned (sort_of o)) p.unsigned q.unsigned;
   value = value_by o (both (works_unsigned (sort_of o)) p.unsigned q.unsigned) p.value q.value;
-  strange = false;
   pure = p.pure && q.pure;
 }
 
@@ -84,19 +82,18 @@ logic_value logic.And x y = conjunction x y
 logic_value logic.Or x y = disjunction x y
 
 abbrev pub logic_part : Logic → Part → Part → Part
-logic_part o p q = record { unsigned = Some false; value = logic_value o p.value q.value; strange = false; pure = p.pure && q.pure }
+logic_part o p q = record { unsigned = Some false; value = logic_value o p.value q.value; pure = p.pure && q.pure }
 
 abbrev pub cond_part : Part → Part → Part → Part
 cond_part test p q = record {
   unsigned = both (λ a b. a || b) p.unsigned q.unsigned;
   value = chosen test.value p.value q.value;
-  strange = false;
   pure = test.pure && (p.pure && q.pure);
 }
 
 -- `u` says whether the type of the cast is unsigned, if that is an integer type
 abbrev pub cast_part : Option Bool → Part → Part
-cast_part u p = record { unsigned = u; value = cond (is_some u) p.value None; strange = false; pure = p.pure }
+cast_part u p = record { unsigned = u; value = cond (is_some u) p.value None; pure = p.pure }
 
 -- what it breaks ----------------------------------------------------------------
 
@@ -113,12 +110,10 @@ where_true false faults = []
 abbrev pub strange_piece : Span → Piece
 strange_piece span = record { part = strange; faults = λ asked. type_fault span }
 
-abbrev pub token_piece : Span → Part → Piece
-token_piece span p = record { part = p; faults = λ asked. where_true p.strange (type_fault span) }
-
--- parentheses belong to the expression
-abbrev pub enclosed : Span → Piece → Piece
-enclosed span p = record p { faults = λ asked. p.faults asked ++ where_true p.part.strange (type_fault span) }
+-- a token that is no number is no constant
+abbrev pub token_piece : Span → Option Number → Piece
+token_piece span None = strange_piece span
+token_piece span (Some n) = record { part = number_part n; faults = λ asked. [] }
 
 abbrev pub prefix_piece : Span → Option Prefix → Piece → Piece
 prefix_piece span (Some prefix.Plus) p = p
@@ -180,7 +175,7 @@ cast_to source ts node (Some specs) = cast_unsigned (specifier_words source ts s
 -- nodes; `numbers` has the integer constant that each token is ------------------------
 
 abbrev pub piece_of_token : List Token → List (Option Number) → Raw → Piece
-piece_of_token ts numbers node = token_piece (span_of ts node) (token_part (constant_at numbers (out-Raw node).first))
+piece_of_token ts numbers node = token_piece (span_of ts node) (constant_at numbers (out-Raw node).first)
 
 abbrev pub binary_by : List ℕ → List Token → Raw → List Piece → Piece
 binary_by source ts node (p ∷ q ∷ []) = operator_piece (span_of ts node) (binary_operator source ts node) p q
@@ -189,7 +184,7 @@ binary_by source ts node _ = strange_piece (span_of ts node)
 -- a node by its parts
 unfoldable pub piece_by : List ℕ → List Token → List (Option Number) → Raw → Rule → List Piece → Piece
 piece_by source ts numbers node rule.Prim [] = piece_of_token ts numbers node
-piece_by source ts numbers node rule.Prim (p ∷ []) = enclosed (span_of ts node) p
+piece_by source ts numbers node rule.Prim (p ∷ []) = p
 piece_by source ts numbers node rule.Unary (p ∷ []) = prefix_piece (span_of ts node) (prefix_operator source ts node) p
 piece_by source ts numbers node (rule.Binary level) ps = binary_by source ts node ps
 piece_by source ts numbers node rule.Cond (test ∷ p ∷ q ∷ []) = cond_piece test p q

@@ -9,13 +9,12 @@ use xc_tree::{BinOp, UnOp};
 use xc_tree_words::{binary, unary};
 use xc_type_rule_operators::Logic;
 
-/// What is known of a part of a constant: whether its type is unsigned, and its value, if they are known; whether no constant
-/// may hold it whatever its parts are; and whether it and its parts are what a constant may hold.
+/// What is known of a part of a constant: whether its type is unsigned, and its value, if they are known; and whether it and
+/// its parts are what a constant may hold.
 #[derive(Drop, Clone, Copy, PartialEq, Eq)]
 pub struct Part {
     pub unsigned: Option<bool>,
     pub value: Option<u64>,
-    pub strange: bool,
     pub pure: bool,
 }
 
@@ -25,22 +24,17 @@ pub(crate) fn strange() -> Part
     Part {
         unsigned: None,
         value: None,
-        strange: true,
         pure: false,
     }
 }
 
-pub(crate) fn token_part(number: Option<Number>) -> Part
-    ensures { result ≡ spec.token_part number }
+pub(crate) fn number_part(number: Number) -> Part
+    ensures { result ≡ spec.number_part number }
 {
-    match number {
-        None => strange(),
-        Some(Number { value, unsigned }) => Part {
-            unsigned: Some(unsigned),
-            value: Some(value),
-            strange: false,
-            pure: true,
-        },
+    Part {
+        unsigned: Some(number.unsigned),
+        value: Some(number.value),
+        pure: true,
     }
 }
 
@@ -62,7 +56,6 @@ pub(crate) fn unary_part(op: UnOp, p: Part) -> Part
             None => None,
             Some(n) => Some(unary(op, n)),
         },
-        strange: false,
         pure: p.pure,
     }
 }
@@ -115,7 +108,6 @@ pub(crate) fn binary_part(op: BinOp, p: Part, q: Part) -> Part
     Part {
         unsigned: both_give(op, p.unsigned, q.unsigned),
         value: value_by(op, unsigned, p.value, q.value),
-        strange: false,
         pure: p.pure && q.pure,
     }
 }
@@ -146,7 +138,6 @@ pub(crate) fn logic_part(op: Logic, p: Part, q: Part) -> Part
     Part {
         unsigned: Some(false),
         value: logic_value(op, p.value, q.value),
-        strange: false,
         pure: p.pure && q.pure,
     }
 }
@@ -168,7 +159,6 @@ pub(crate) fn cond_part(test: Part, p: Part, q: Part) -> Part
             Some(0) => q.value,
             Some(_) => p.value,
         },
-        strange: false,
         pure: test.pure && (p.pure && q.pure),
     }
 }
@@ -179,7 +169,6 @@ pub(crate) fn cast_part(unsigned: Option<bool>, p: Part) -> Part
     Part {
         unsigned,
         value: if unsigned.is_some() { p.value } else { None },
-        strange: false,
         pure: p.pure,
     }
 }

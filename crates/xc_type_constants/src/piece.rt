@@ -1,6 +1,6 @@
 //! The parts of a constant, by the text alone.
 
-ghost use Rattle.std.specs.Prelude.{◌≡◌, Some, IfOk, OnOk};
+ghost use Rattle.std.specs.Prelude.{◌≡◌, Bool, Some, IfOk, OnOk};
 ghost use Rattle.xc_raw.specs.declared.tree.Raw.{out-Raw};
 ghost use Rattle.xc_raw.specs.declared.rule.Rule.TheVariants as rule;
 ghost use Rattle.xc_type_rule.specs.Least.{least_from, type_fault};
@@ -9,7 +9,7 @@ ghost use Rattle.xc_type_constants.specs.Pieces as spec;
 ghost use Rattle.xc_type_constants.specs.InnerPieces as inner_spec;
 
 use crate::part::{
-    Part, binary_part, cast_part, cond_part, goes_on, logic_part, strange, token_part, unary_part,
+    Part, binary_part, cast_part, cond_part, goes_on, logic_part, number_part, strange, unary_part,
 };
 use std::alloc::{AllocError, Global};
 use xc_lex::Token;
@@ -57,11 +57,12 @@ fn refused(span: Span, first: &mut Option<Fault>) -> Part
 #[tactic(auto, using(xc_type_rule::proofs::Least::least_rules))]
 fn of_token(tokens: &[Token], texts: &Texts, node: &Raw, first: &mut Option<Fault>) -> Part
     ensures part { result ≡ (spec.piece_of_token tokens.now texts.now.constants.items node.now).part }
-    ensures first { first.new ≡ least_from first.old (spec.where_true result.strange (type_fault (span_of tokens.now node.now))) }
+    ensures first { (asked : Bool) → first.new ≡ least_from first.old ((spec.piece_of_token tokens.now texts.now.constants.items node.now).faults asked) }
 {
-    let part = token_part(texts.constant(node.first as usize));
-    note_where(part.strange, span_of(tokens, node), first);
-    part
+    match texts.constant(node.first as usize) {
+        Some(number) => number_part(number),
+        None => refused(span_of(tokens, node), first),
+    }
 }
 
 fn unsigned_of(ty: &Ty) -> Option<bool>
@@ -148,11 +149,7 @@ fn enclosed_part(
 {
     match node.parts.as_slice() {
         [] => Ok(of_token(tokens, texts, node, first)),
-        [p] => {
-            let p = piece(alloc, source, tokens, texts, p, asked, first)?;
-            note_where(p.strange, span_of(tokens, node), first);
-            Ok(p)
-        }
+        [p] => piece(alloc, source, tokens, texts, p, asked, first),
         _ => Ok(refused(span_of(tokens, node), first)),
     }
 }

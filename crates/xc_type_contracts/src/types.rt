@@ -7,7 +7,7 @@ ghost use Rattle.xc_type_rule.specs.Values as values;
 use std::alloc::{AllocError, Global};
 use xc_text_place::Span;
 use xc_tree::Ty;
-use xc_type_rule::{Fault, Found, common_type, rvalue};
+use xc_type_rule::{Fault, Found, Known, common_type, note_lost, rvalue};
 use xc_word::Kind;
 
 pub fn read_kind(ty: &Ty) -> Kind
@@ -34,15 +34,14 @@ pub fn note(first: &mut Option<Fault>, fault: Fault)
     xc_type_rule::note(first, fault);
 }
 
-pub fn value(
-    alloc: Global,
-    sizes: &[u32],
-    span: Span,
-    part: Found,
-    first: &mut Option<Fault>,
-) -> Result<Found, AllocError>
-    ensures part { IfOk result (λ r. r ≡ values.rvalue sizes.now span part) }
-    ensures first { OnOk result (first.new ≡ least_from first.old (values.rvalue_faults span part.known)) }
+pub fn value(alloc: Global, sizes: &[u32], span: Span, part: Found) -> Result<Found, AllocError>
+    ensures { IfOk result (λ r. r ≡ values.rvalue sizes.now span part) }
 {
-    rvalue(alloc, sizes, span, part, first)
+    rvalue(alloc, sizes, span, part)
+}
+
+pub fn lost(inner: Span, known: &Known, first: &mut Option<Fault>)
+    ensures { first.new ≡ least_from first.old (values.rvalue_faults inner known.now) }
+{
+    note_lost(inner, known, first);
 }

@@ -13,7 +13,7 @@ use Rattle.xc_type_expressions.specs.declared.text.Text.{Text}
 use Rattle.xc_type_expressions.specs.Roles.{Role}
 use Rattle.xc_type_expressions.specs.Places.{name_of, alone_in}
 use Rattle.xc_type_expressions.specs.Types.{specified_by, struct_by, member_by}
-use Rattle.xc_type_expressions.specs.Judged.{span_in, spot_in, role_of, found_of, declared_of, judged}
+use Rattle.xc_type_expressions.specs.Judged.{span_in, spot_in, role_of, found_of, declared_of, judged, inner_of}
 
 judged_is : (t : Text) (raw : Raw) → judged t raw ≡ role_of t raw (map (judged t) (out-Raw raw).parts)
 unfolding judged
@@ -25,6 +25,9 @@ parts_of t raw = map (judged t) (out-Raw raw).parts
 -- each role by itself, so that no goal has to hold all of them
 pub span_is : (t : Text) (raw : Raw) → (judged t raw).span ≡ span_in t raw
 span_is t raw = ap (λ (r : Role). r.span) (judged_is t raw)
+
+pub inner_is : (t : Text) (raw : Raw) → (judged t raw).inner ≡ inner_of (span_in t raw) (out-Raw raw).rule (parts_of t raw)
+inner_is t raw = ap (λ (r : Role). r.inner) (judged_is t raw)
 
 pub alone_is : (t : Text) (raw : Raw) → (judged t raw).alone ≡ alone_in raw
 alone_is t raw = ap (λ (r : Role). r.alone) (judged_is t raw)
@@ -47,4 +50,4 @@ member_is t raw = ap (λ (r : Role). r.member) (judged_is t raw)
 pub declared_is : (t : Text) (raw : Raw) (base : Option Ty) → (judged t raw).declared base ≡ declared_of t raw (parts_of t raw) base
 declared_is t raw base = ap (λ (r : Role). r.declared base) (judged_is t raw)
 
-pub ruleset judge_rules = (common_steps, least_append, least_none, span_is, alone_is, found_is, constant_is, specified_is, struct_is, member_is, declared_is)
+pub ruleset judge_rules = (common_steps, least_append, least_none, span_is, inner_is, alone_is, found_is, constant_is, specified_is, struct_is, member_is, declared_is)

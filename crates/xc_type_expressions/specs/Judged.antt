@@ -142,10 +142,16 @@ declared_of t node parts = declared_by (span_in t node) (spot_in t (declarator_n
 
 -- nodes ------------------------------------------------------------------------
 
+-- a part that breaks a rule by itself is told without the parentheses around it
+abbrev pub inner_of : Span → Rule → List Role → Span
+inner_of span rule.Prim (p ∷ []) = p.inner
+inner_of span r ps = span
+
 -- a node by its parts
 abbrev pub role_of : Text → Raw → List Role → Role
 role_of t node parts = record {
   span = span_in t node;
+  inner = inner_of (span_in t node) (out-Raw node).rule parts;
   alone = alone_in node;
   found = found_of t node (out-Raw node).rule parts;
   constant = piece_in t.source.now t.tokens.now t.texts.now.constants.items node;

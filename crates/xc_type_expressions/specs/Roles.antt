@@ -12,6 +12,8 @@ use Rattle.xc_type_constants.specs.Pieces.{Piece}
 pub record Role : Type 0 where
   -- the bytes that it covers
   pub span : Span
+  -- those without the parentheses around it
+  pub inner : Span
   -- the token that it is, where it is an expression of one
   pub alone : Option ℕ
   -- as an expression
@@ -29,7 +31,7 @@ pub record Role : Type 0 where
 
 -- an expression as a value (C99 6.3.2.1)
 unfoldable pub value : Role → Judge Found
-value p = and_then p.found (λ f env. give (rvalue env.structs.sizes p.span f) (rvalue_faults p.span f.known) env)
+value p = and_then p.found (λ f env. give (rvalue env.structs.sizes p.span f) (rvalue_faults p.inner f.known) env)
 
 -- several, from left to right
 abbrev pub values : List Role → Judge (List Found)

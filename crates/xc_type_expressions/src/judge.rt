@@ -1,6 +1,6 @@
 //! Expressions, specifiers and declarators, each by its parts.
 
-ghost use Rattle.std.specs.Prelude.{map, IfOk};
+ghost use Rattle.std.specs.Prelude.{◌≡◌, map, IfOk};
 ghost use Rattle.xc_raw.specs.declared.tree.Raw.{out-Raw};
 ghost use Rattle.xc_type_scopes.specs.Judge.{Judges};
 ghost use Rattle.xc_type_expressions.specs.Roles as roles;
@@ -20,13 +20,26 @@ use std::alloc::{AllocError, Global};
 use xc_hold::kept;
 use xc_raw::{Raw, Rule};
 use xc_raw_parts::{declarator_name, span_of, specifier_words, star_words, struct_name};
+use xc_text_place::Span;
 use xc_tree::Ty;
 use xc_type_declarators::{Bound, note_bounds, told};
-use xc_type_rule::{Fault, Found, rvalue, unknown_place};
+use xc_type_rule::{Fault, Found, note_lost, rvalue, unknown_place};
 use xc_type_rule_calls::misused;
 use xc_type_scopes::Env;
 
 // Expressions.
+
+/// The bytes that an expression covers without the parentheses around it.
+#[cycle(inner)]
+#[tactic(auto, using(crate::proofs::Roles::judge_rules))]
+fn inner_span(text: &Text, node: &Raw) -> Span
+    ensures { result ≡ (judged text.now node.now).inner }
+{
+    match (node.rule, node.parts.as_slice()) {
+        (Rule::Prim, [enclosed]) => inner_span(text, enclosed),
+        _ => span_of(text.tokens, node),
+    }
+}
 
 /// What an expression is found to be.
 #[cycle(judge)]
@@ -65,13 +78,8 @@ pub fn value(
     ensures { IfOk result (λ r. Judges (roles.value (judged text.now node.now)) env.old env.new first.old first.new r) }
 {
     let f = found(alloc, text, env, node, first)?;
-    rvalue(
-        alloc,
-        env.structs().sizes(),
-        span_of(text.tokens, node),
-        f,
-        first,
-    )
+    note_lost(inner_span(text, node), &f.known, first);
+    rvalue(alloc, env.structs().sizes(), span_of(text.tokens, node), f)
 }
 
 #[cycle(judge)]

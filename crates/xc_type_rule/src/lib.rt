@@ -23,4 +23,4 @@ pub use types::{
     base, base_of, both_numbers, common_type, fits, is_number, is_plain, is_pointer, is_uint,
     is_void, same_ty,
 };
-pub use value::rvalue;
+pub use value::{note_lost, rvalue};

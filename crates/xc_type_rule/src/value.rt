@@ -1,6 +1,6 @@
 //! What a place holds.
 
-ghost use Rattle.std.specs.Prelude.{◌≡◌, IfOk, OnOk, option_map};
+ghost use Rattle.std.specs.Prelude.{◌≡◌, IfOk, option_map};
 ghost use Rattle.xc_tree.specs.declared.ty.Ty.{out-Ty};
 ghost use Rattle.xc_type_rule.specs.Least.{least_from};
 ghost use Rattle.xc_type_rule.specs.Values as values;
@@ -125,24 +125,25 @@ fn is_lost(known: &Known) -> bool
     }
 }
 
+/// Tells an array within a mixed struct that is used as a value: such an array is used by indexing alone. `inner` covers
+/// the part without the parentheses around it.
+#[tactic(auto, using(crate::proofs::Least::least_rules), unfolding(crate::specs::Values::rvalue_faults))]
+pub fn note_lost(inner: Span, known: &Known, first: &mut Option<Fault>)
+    ensures { first.new ≡ least_from first.old (values.rvalue_faults inner known.now) }
+{
+    if is_lost(known) {
+        note_type(first, inner);
+    }
+}
+
 /// What a part is as a value: a place becomes what it holds, by a read of the kind that its qualifier demands, and an
 /// array the pointer to its first element. A struct has no value and stays a place. `span` covers the part, and
 /// `sizes` has the sizes of the structs.
-#[tactic(auto, using(crate::proofs::Least::least_rules), unfolding(crate::specs::Values::rvalue, crate::specs::Values::rvalue_faults))]
-pub fn rvalue(
-    alloc: Global,
-    sizes: &[u32],
-    span: Span,
-    found: Found,
-    first: &mut Option<Fault>,
-) -> Result<Found, AllocError>
-    ensures part { IfOk result (λ r. r ≡ values.rvalue sizes.now span found) }
-    ensures first { OnOk result (first.new ≡ least_from first.old (values.rvalue_faults span found.known)) }
+#[tactic(auto, unfolding(crate::specs::Values::rvalue))]
+pub fn rvalue(alloc: Global, sizes: &[u32], span: Span, found: Found) -> Result<Found, AllocError>
+    ensures { IfOk result (λ r. r ≡ values.rvalue sizes.now span found) }
 {
     let Found { known, made } = found;
-    if is_lost(&known) {
-        note_type(first, span);
-    }
     match known {
         Known::Unknown { place: _ } => {
             drop(made);

@@ -1,12 +1,10 @@
 -- What is no array is no array within a mixed struct.
 use Rattle.std.proofs.Common.{◌≡◌, [], true, false, refl, ap}
-use Rattle.std.specs.Prelude.{Option, not}
-use Rattle.std.proofs.lemmas.Grind.{common_steps}
+use Rattle.std.specs.Prelude.{not}
 use Rattle.xc_text_place.specs.declared.Span.{Span}
-use Rattle.xc_type_rule.specs.declared.fault.Fault.{Fault}
 use Rattle.xc_type_rule.specs.declared.found.Known.{Known}
 use Rattle.xc_type_rule.specs.declared.found.Known.TheVariants as known
-use Rattle.xc_type_rule.specs.Least.{least_from, fault_unless}
+use Rattle.xc_type_rule.specs.Least.{fault_unless}
 use Rattle.xc_type_rule.specs.Values.{rvalue_faults}
 use Rattle.xc_type_rule_places.specs.Rulings.{is_array}
 
@@ -16,10 +14,3 @@ nothing_lost at (known.Unknown place) h = refl
 nothing_lost at (known.Value ty) h = refl
 nothing_lost at (known.Place ty false) h = refl
 nothing_lost at (known.Place ty true) h = ap (λ b. fault_unless (not b) at) h
-
--- what is no array has no fault as a value
-pub stays : (f : Option Fault) (at : Span) (k : Known) → is_array k ≡ false → least_from f (rvalue_faults at k) ≡ f
-unfolding least_from
-stays f at k h = ap (least_from f) (nothing_lost at k h)
-
-pub ruleset kept_rules = (common_steps, stays)

@@ -206,21 +206,13 @@ fn element(
     place_by(alloc, span, ruling, kind, first)
 }
 
-#[tactic(auto, using(crate::proofs::Kept::kept_rules))]
-fn base_of(
-    alloc: Global,
-    sizes: &[u32],
-    at: Span,
-    a: Found,
-    first: &mut Option<Fault>,
-) -> Result<Base, AllocError>
-    ensures base { IfOk result (λ r. r ≡ spec.base_of sizes.now at a) }
-    ensures first { OnOk result (first.new ≡ first.old) }
+fn base_of(alloc: Global, sizes: &[u32], at: Span, a: Found) -> Result<Base, AllocError>
+    ensures { IfOk result (λ r. r ≡ spec.base_of sizes.now at a) }
 {
     if is_array(&a.known) {
         return Ok(array_base(sizes, a));
     }
-    let value = rvalue(alloc, sizes, at, a, first)?;
+    let value = rvalue(alloc, sizes, at, a)?;
     Ok(pointer_base(sizes, value))
 }
 
@@ -239,7 +231,7 @@ pub fn index(
     ensures part { IfOk result (λ r. r ≡ spec.index_part sizes.now span at a index) }
     ensures first { OnOk result (first.new ≡ least_from first.old (spec.index_faults sizes.now span at a index)) }
 {
-    let (base, index) = kept(base_of(alloc, sizes, at, a, first), index)?;
+    let (base, index) = kept(base_of(alloc, sizes, at, a), index)?;
     element(alloc, span, base, index, first)
 }
 

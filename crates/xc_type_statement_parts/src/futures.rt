@@ -15,7 +15,7 @@ use xc_raw_parts::{PlaceStep, captured_names, place_steps, spot};
 use xc_text_place::Span;
 use xc_tree::{Capture, Expr, Ty, copy_expr, copy_ty};
 use xc_type_expressions::{Declared, Text, arrowed, dotted, named, value};
-use xc_type_rule::{Fault, Found, Known, is_plain, note_type, rvalue, unknown_place};
+use xc_type_rule::{Fault, Found, Known, is_plain, note_lost, note_type, rvalue, unknown_place};
 use xc_type_rule_places::index;
 use xc_type_scopes::Env;
 
@@ -61,6 +61,21 @@ fn element(
     index(alloc, env.structs().sizes(), whole, before, base, v, first)
 }
 
+/// A part of a place as a value.
+#[tactic(auto, using(crate::proofs::Parts::part_rules))]
+fn as_value(
+    alloc: Global,
+    env: &Env,
+    at: Span,
+    part: Found,
+    first: &mut Option<Fault>,
+) -> Result<Found, AllocError>
+    ensures { IfOk result (λ r. Judges (spec.as_value at part) env.now env.now first.old first.new r) }
+{
+    note_lost(at, &part.known, first);
+    rvalue(alloc, env.structs().sizes(), at, part)
+}
+
 #[tactic(auto, using(crate::proofs::Parts::part_rules), unfolding(crate::specs::Futures::member))]
 fn member(
     alloc: Global,
@@ -79,7 +94,7 @@ fn member(
     match access {
         Access::Dot => dotted(alloc, env, whole, named_at, number, base, first),
         Access::Arrow => {
-            let p = rvalue(alloc, env.structs().sizes(), before, base, first)?;
+            let p = as_value(alloc, env, before, base, first)?;
             arrowed(alloc, env, whole, named_at, number, p, first)
         }
     }
@@ -233,10 +248,7 @@ fn copy_of(
     let variable = named(alloc, env, at, name, first)?;
     let ty = variable_ty(alloc, &variable.known);
     let fine = may_be_variable(&variable.known);
-    let (v, ty) = both(
-        rvalue(alloc, env.structs().sizes(), at, variable, first),
-        ty,
-    )?;
+    let (v, ty) = both(as_value(alloc, env, at, variable, first), ty)?;
     if !fine {
         note_type(first, at);
     }

@@ -173,9 +173,9 @@ fn types_and_objects(rt: HostRuntime) -> Result<(), Fail> {
         ("int a[1 + @3 / 0]; int main() { return 0; }", "type"),
         ("int a[0 ? 2 : @3 % 0]; int main() { return 0; }", "type"),
         ("int n, a[1 || @n]; int main() { return 0; }", "type"),
-        ("int n, a[@(n)]; int main() { return 0; }", "type"),
+        ("int n, a[((@n))]; int main() { return 0; }", "type"),
         ("int n, a[2 + @&n]; int main() { return 0; }", "type"),
-        ("int a[1 + @(2, 3)]; int main() { return 0; }", "type"),
+        ("int a[1 + (@2, 3)]; int main() { return 0; }", "type"),
         ("int n, a[@n + u]; int main() { return 0; }", "type"),
         ("int n, x = 1 + @n; int main() { return 0; }", "type"),
         ("int n, x = @n + u; int main() { return 0; }", "type"),
@@ -226,7 +226,7 @@ fn types_and_objects(rt: HostRuntime) -> Result<(), Fail> {
 
 #[test]
 fn expressions(rt: HostRuntime) -> Result<(), Fail> {
-    let rows: [(&str, &str); 59] = [
+    let rows: [(&str, &str); 60] = [
         (
             "void g() { } int main() { return g(), 1 && 2 || 3 ? 4 : 5; }",
             "ok",
@@ -283,6 +283,10 @@ fn expressions(rt: HostRuntime) -> Result<(), Fail> {
         ),
         (
             "struct m { int *p; int a[2]; } x; int main() { int *q = @x.a; return *q; }",
+            "type",
+        ),
+        (
+            "struct m { int *p; int a[2]; } x; int main() { int *q = 1 + ((@x.a)); return *q; }",
             "type",
         ),
         (

@@ -104,9 +104,9 @@ module _ (sizes : List ℕ) (span : Span) where
   valued_whole (known.Value t) made l h m = record { known = refl; made = m }
   valued_whole (known.Place t w) made l h m = held_whole t w made (out-Ty t) l m
 
-  pub rvalue_whole : (f : Found) → IsWhole f → rvalue_faults span f.known ≡ [] → IsWhole (rvalue sizes span f)
+  pub rvalue_whole : (inner : Span) (f : Found) → IsWhole f → rvalue_faults inner f.known ≡ [] → IsWhole (rvalue sizes span f)
   unfolding rvalue rvalue_faults
-  rvalue_whole f h none = valued_whole f.known f.made (kept span (not (is_lost f.known)) none) h.known h.made
+  rvalue_whole inner f h none = valued_whole f.known f.made (kept inner (not (is_lost f.known)) none) h.known h.made
 
 -- null pointers -----------------------------------------------------------------
 

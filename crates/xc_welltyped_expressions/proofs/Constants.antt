@@ -38,11 +38,11 @@ use Rattle.xc_welltyped_expressions.proofs.Passing.{role_passing, passing_value,
 use Rattle.xc_welltyped_expressions.proofs.Parts.{value_fine}
 use Rattle.xc_welltyped_expressions.proofs.Rules.{operand_given}
 use Rattle.xc_welltyped_expressions.proofs.Expressions.{IsJudged, expr_part}
-use Rattle.xc_welltyped_expressions.proofs.Pieces.{PieceFine, token_fine, enclosed_fine, prefix_fine, operator_fine, cond_fine, cast_fine, cast_named}
+use Rattle.xc_welltyped_expressions.proofs.Pieces.{PieceFine, token_fine, prefix_fine, operator_fine, cond_fine, cast_fine, cast_named}
 
 operand_clean : (b : Bool) (r : Role) (e : Env) → Clean (operand b r) e → Clean r.found e
 unfolding value
-operand_clean true r e c = clean_first r.found (λ f env. give (rvalue env.structs.sizes r.span f) (rvalue_faults r.span f.known) env) e c (λ x e h. h)
+operand_clean true r e c = clean_first r.found (λ f env. give (rvalue env.structs.sizes r.span f) (rvalue_faults r.inner f.known) env) e c (λ x e h. h)
 operand_clean false r e c = c
 
 pub value_clean : (r : Role) (e : Env) → Clean (value r) e → Clean r.found e
@@ -147,7 +147,7 @@ module _ (t : Text) (node : Raw) where
       Clean (found_of t node r (map (judged t) ns)) e → PieceFine (piece_by source tokens numbers node r (pieces_in source tokens numbers ns))
   unfolding level_ok found_of piece_by
   constant_fine rule.Prim [] is x l h e g c = token_fine (span_of tokens node) (constant_at numbers (out-Raw node).first)
-  constant_fine rule.Prim (n ∷ []) is x l h e g c = enclosed_fine (span_of tokens node) (piece n) (one_part rule.Prim n h.0 l e g c)
+  constant_fine rule.Prim (n ∷ []) is x l h e g c = one_part rule.Prim n h.0 l e g c
   constant_fine rule.Prim (n ∷ m ∷ ns) is x l h e g c = absurd cc
   constant_fine rule.Unary (n ∷ []) is x l h e g c = prefix_fine (span_of tokens node) (prefix_operator source tokens node) (piece n)
       (one_part rule.Unary n h.0 (and_left (is_expr (rule_in n)) _ l) e g c)

@@ -75,8 +75,8 @@ module _ (t : Text) where
   pub value_fine : (node : Raw) (r : Role) → Gives (λ e f. Fine t e f × Spoken t node) r.found → Gives (λ e f. Fine t e f × Spoken t node) (value r)
   unfolding value
   value_fine node r f = gives_then (λ e f. Fine t e f × Spoken t node) (λ e f. Fine t e f × Spoken t node) r.found
-      (λ f env. give (rvalue env.structs.sizes r.span f) (rvalue_faults r.span f.known) env) (λ x e h. h) f
-      (λ x e g h c. given_self e _ g (as_value_fine t r.span x e g h.0 c.faultless, h.1))
+      (λ f env. give (rvalue env.structs.sizes r.span f) (rvalue_faults r.inner f.known) env) (λ x e h. h) f
+      (λ x e g h c. given_self e _ g (as_value_fine t r.span r.inner x e g h.0 c.faultless, h.1))
 
   each_value : (ns : List Raw) → Each (IsPart t) ns → Each (λ n. Gives (λ e x. Fine t e x × Spoken t n) (value (judged t n))) ns
   each_value [] h = tt

@@ -32,7 +32,7 @@ use Rattle.xc_raw_parts.specs.declared.operators.Prefix.{Prefix}
 use Rattle.xc_raw_parts.specs.declared.operators.Prefix.TheVariants as prefix
 use Rattle.xc_type_expressions.specs.Operations as operations
 use Rattle.xc_type_expressions.specs.Operations.{has_any}
-use Rattle.xc_type_constants.specs.Pieces.{token_part, unary_unsigned, both, works_unsigned, gives_unsigned, value_by, logic_value, cast_part, Piece, where_true, strange_piece, token_piece, enclosed, prefix_piece, is_zero, zero_divisor, binary_piece, goes_on, logic_piece, operator_piece, cond_piece, unsigned_of, cast_unsigned}
+use Rattle.xc_type_constants.specs.Pieces.{unary_unsigned, both, works_unsigned, gives_unsigned, value_by, logic_value, cast_part, Piece, where_true, strange_piece, token_piece, prefix_piece, is_zero, zero_divisor, binary_piece, goes_on, logic_piece, operator_piece, cond_piece, unsigned_of, cast_unsigned}
 use Rattle.xc_welltyped_claims.proofs.Judges.{none_left, none_right}
 use Rattle.xc_welltyped_expressions.proofs.Base.{integer_base}
 
@@ -61,12 +61,9 @@ both_some f (Some a) (Some b) h k = refl
 strange_fine : (span : Span) → PieceFine (strange_piece span)
 strange_fine span asked none = let no : type_fault span ≡ [] = none in absurd cc
 
-pub token_fine : (span : Span) (o : Option Number) → PieceFine (token_piece span (token_part o))
-token_fine span None asked none = absurd cc
+pub token_fine : (span : Span) (o : Option Number) → PieceFine (token_piece span o)
+token_fine span None asked none = strange_fine span asked none
 token_fine span (Some n) asked none = record { pure = refl; typed = refl; value = λ a. refl }
-
-pub enclosed_fine : (span : Span) (p : Piece) → PieceFine p → PieceFine (enclosed span p)
-enclosed_fine span p f asked none = let h = f asked (none_left (p.faults asked) _ none) in record { pure = h.pure; typed = h.typed; value = h.value }
 
 unary_typed : (o : UnOp) (u : Option Bool) → IsTrue (is_some u) → IsTrue (is_some (unary_unsigned o u))
 unary_typed un.Not u h = refl

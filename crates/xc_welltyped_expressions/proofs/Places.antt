@@ -127,9 +127,9 @@ module _ (span : Span) (bs flags : List Bool) where
 module _ (t : Text) where
   -- values ------------------------------------------------------------------------------
 
-  pub as_value_fine : (at : Span) (f : Found) (e : Env) → Good e → Fine t e f → rvalue_faults at f.known ≡ [] → Fine t e (rvalue e.structs.sizes at f)
-  as_value_fine at f e g h none = record {
-    whole = rvalue_whole e.structs.sizes at f h.whole none;
+  pub as_value_fine : (at inner : Span) (f : Found) (e : Env) → Good e → Fine t e f → rvalue_faults inner f.known ≡ [] → Fine t e (rvalue e.structs.sizes at f)
+  as_value_fine at inner f e g h none = record {
+    whole = rvalue_whole e.structs.sizes at inner f h.whole none;
     sound = λ so a. subst (λ ns. IsSound so (rvalue ns at f)) (point_sizes t so e g a) (rvalue_sound so at f (h.sound so a));
     seen = λ seen c. rvalue_seen seen e.structs.sizes at f (h.seen seen c);
     used = λ flags m. rvalue_used flags (length e.locals) e.structs.sizes at f (h.used flags m);

@@ -161,6 +161,6 @@ module _ (span : Span) where
             element_whole b.element b.size b.bound b.made i (array_gives a) (array_made a e ha) hi none
         by false e none =
             let v = rvalue sizes at a in
-            let hv : IsWhole v = rvalue_whole sizes at a ha (nothing_lost at a.known e) in
+            let hv : IsWhole v = rvalue_whole sizes at at a ha (nothing_lost at a.known e) in
             let b = pointer_base sizes v in
             element_whole b.element b.size b.bound b.made i (pointer_gives v hv) (pointer_made v hv) hi none

@@ -150,7 +150,7 @@ module _ (t : Text) (places : PlacesFine t) (token : ℕ) (name : ℕ) (is : nam
   copy_object ty k faults o h none f r p =
       let x = typed at (Ptr ty) k in
       let same = plain_read e.structs.sizes at ty x p in
-      let v : Fine t e (value_found ty (read_value at ty x)) = subst (Fine t e) same (places.as_value_fine at (place_found ty x) e g f r) in
+      let v : Fine t e (value_found ty (read_value at ty x)) = subst (Fine t e) same (places.as_value_fine at at (place_found ty x) e g f r) in
       record {
         name = name;
         named = is;

@@ -41,7 +41,7 @@ use Rattle.xc_welltyped_statements.proofs.Simple.{Valued}
 -- assumed of names, members and elements
 pub record PlacesFine (t : Text) : Type 0 where
   pub named_fine : (span : Span) (name : ℕ) → Gives (Fine t) (named span (Some name))
-  pub as_value_fine : (at : Span) (f : Found) (e : Env) → Good e → Fine t e f → rvalue_faults at f.known ≡ [] → Fine t e (rvalue e.structs.sizes at f)
+  pub as_value_fine : (at inner : Span) (f : Found) (e : Env) → Good e → Fine t e f → rvalue_faults inner f.known ≡ [] → Fine t e (rvalue e.structs.sizes at f)
   pub indexed_fine : (span at : Span) (a i : Found) (e : Env) → Good e → Fine t e a → Fine t e i → Clean (indexed span at a i) e → Given e (indexed span at a i e).env (Fine t (indexed span at a i e).env (indexed span at a i e).part)
   pub dotted_fine : (span at : Span) (name : Option ℕ) (f : Found) (e : Env) → Good e → Fine t e f → Clean (dotted span at name f) e → Given e (dotted span at name f e).env (Fine t (dotted span at name f e).env (dotted span at name f e).part)
   pub arrowed_fine : (span at : Span) (name : Option ℕ) (f : Found) (e : Env) → Good e → Fine t e f → Clean (arrowed span at name f) e → Given e (arrowed span at name f e).env (Fine t (arrowed span at name f e).env (arrowed span at name f e).part)
@@ -80,7 +80,7 @@ module _ (t : Text) (valued : Valued t) (places : PlacesFine t) where
       let k : Found → Judge Found = arrowed span (futures.spot_of t n) (name_of t n) in
       let v = clean_first (futures.as_value at a) k e c (λ x f h. h) in
       let w = clean_second (futures.as_value at a) k e c in
-      places.arrowed_fine span (futures.spot_of t n) (name_of t n) (rvalue e.structs.sizes at a) e g (places.as_value_fine at a e g f v.faultless) w
+      places.arrowed_fine span (futures.spot_of t n) (name_of t n) (rvalue e.structs.sizes at a) e g (places.as_value_fine at at a e g f v.faultless) w
 
   element_fine : (span at : Span) (a : Found) (i : Raw) (e : Env) → Good e → Fine t e a → Shaped t i → IsTrue (is_expr (rule_in i)) → Clean (futures.element t span at a i) e →
       Given e (futures.element t span at a i e).env (Fine t (futures.element t span at a i e).env (futures.element t span at a i e).part × Spoken t i)

@@ -1,5 +1,5 @@
-use Rattle.std.proofs.Common.{inl, inr, refl, sym, ap, subst, ◌∙◌}
-use Rattle.xc_top.specs.Seen.{SinkSeen, Puts}
+use Rattle.std.proofs.Common.{inl, inr, refl, subst}
+use Rattle.xc_top.specs.Seen.{sink_seen, Puts}
 use Rattle.xc_top.proofs.top.xmtc.Goals as goal
 
 pub returns-in-Ok-clause-tells : goal.returns-in-Ok-clause-tells
@@ -7,5 +7,5 @@ returns-in-Ok-clause-tells g c = inr (c.in-Ok.plan.status, c.in-Ok.plan.out.item
 
 pub returns-in-Err-clause-tells : goal.returns-in-Err-clause-tells
 returns-in-Err-clause-tells g c =
-    let err : SinkSeen = record { before = g.E.Sink.written c.args.err.now; after = g.E.Sink.written c.put_some.new.sink; faults_before = g.E.Sink.faults c.args.err.now; faults_after = g.E.Sink.faults c.put_some.new.sink } in
-    inl (refl, (refl, refl), subst (λ t. Puts t err) c.as_bytes.ensures.value c.put_some.ensures)
+    let err = sink_seen g.E.Sink.written g.E.Sink.faults c.args.err.now c.put_some.new.sink in
+    inl (refl, c.in-Err.ensures.fetched, (refl, refl), subst (λ t. Puts t err) c.as_bytes.ensures.value c.put_some.ensures)
