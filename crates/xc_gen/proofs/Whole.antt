@@ -13,7 +13,7 @@ use Rattle.xc_isa.specs.declared.instr.Instr.{Instr}
 use Rattle.xc_isa.specs.declared.instr.Instr.TheVariants as instr
 use Rattle.xc_isa.specs.Texts.{cells_of}
 use Rattle.xc_isa.specs.Effects.{Regs}
-use Rattle.xc_isa.specs.Machine.{Empty, Live, State, start, HasQuit, IsReady, live_words}
+use Rattle.xc_isa.specs.Machine.{Empty, Live, State, Spent, start, step, HasQuit, IsReady, live_words}
 use Rattle.xc_isa.specs.Runs.{Ran, At, Trap, run}
 use Rattle.xc_isa.proofs.Follows.{HasAt, has_front, has_all, Conf, conf, state_of, goes, asks}
 use Rattle.xc_meaning.specs.Terms.{Term, Number, Read, Write, Update, Unary, Binary, And, Or, Cond, Comma, Print, Terms, NoMore, More, Command, Empty as NoDeed, Eval, Block, Return, Commands, End, Then, Program}
@@ -364,8 +364,12 @@ module _ (p : Program) (c : Code) (tr : Translated p c) where
   words_of others slots st (inl h) k = words_at others st k.0 k.1 k.2
   words_of others slots st (inr h) k = words_at others st k.0 k.1 k.2
 
+  numbers_of : (others : ℕ) (slots : List ℕ) (st : State) (o : Whole ⊎ Fallen) → Known others slots (At st) o → (s : ℕ) → step c s st ≡ Spent → ⊥
+  numbers_of others slots st (inl h) k = k.6
+  numbers_of others slots st (inr h) k = k.6
+
   pub ends : Ends p c
-  ends = record { steps = steps; steps_to_trap = steps_to_trap; words = words }
+  ends = record { steps = steps; steps_to_trap = steps_to_trap; words = words; numbers = numbers }
     where
       steps : (streams m : ℕ) → IsCount streams → TicksAtMost p m → (slots : List ℕ) (st : State) → run c slots (start c streams) ≡ At st → length slots ≤ step_bound T streams m
       steps zero m count most slots st e = absurd (omega (arith, count.0))
@@ -378,3 +382,7 @@ module _ (p : Program) (c : Code) (tr : Translated p c) where
       words : (streams : ℕ) → IsCount streams → (slots : List ℕ) (st : State) → run c slots (start c streams) ≡ At st → live_words st ≤ word_bound (words_of_globals p) T streams
       words zero count slots st e = absurd (omega (arith, count.0))
       words (suc others) count slots st e = words_of others slots st outcome (known_of others slots (At st) e)
+
+      numbers : (streams : ℕ) → IsCount streams → (slots : List ℕ) (st : State) → run c slots (start c streams) ≡ At st → (s : ℕ) → step c s st ≡ Spent → ⊥
+      numbers zero count slots st e = absurd (omega (arith, count.0))
+      numbers (suc others) count slots st e = numbers_of others slots st outcome (known_of others slots (At st) e)

@@ -4,7 +4,7 @@ use Rattle.xc_meaning_world.specs.World.{World, Action}
 use Rattle.xc_meaning_world.specs.Runs.{HasTrapped, ticks}
 use Rattle.xc_isa.specs.declared.code.Code.{Code}
 use Rattle.xc_isa.specs.declared.instr.TrapKind.{TrapKind}
-use Rattle.xc_isa.specs.Machine.{State, start, HasQuit, IsReady, live_words}
+use Rattle.xc_isa.specs.Machine.{State, Spent, start, step, HasQuit, IsReady, live_words}
 use Rattle.xc_isa.specs.Runs.{At, Trap, run}
 use Rattle.xc_meaning.specs.Terms.{Term, Number, Read, Write, Update, Unary, Binary, And, Or, Cond, Comma, Print, Terms, NoMore, More, Command, Empty, Eval, Block, Return, Commands, End, Then, Program}
 use Rattle.xc_meaning.specs.Source.{SourceRun, HasEnded}
@@ -80,7 +80,8 @@ step_bound t streams n = 64 * (t + streams + 1) * (n + 1)
 abbrev pub word_bound : ℕ → ℕ → ℕ → ℕ
 word_bound globals t streams = globals + 16 * (t + 8) * (streams + 1) * 3
 
--- No run is longer than its source's ticks allow, and none has more live words than the bound.
+-- No run is longer than its source's ticks allow, none has more live words than the bound, and none comes to a step for which the
+-- numbers of segments are spent.
 pub record Ends (p : Program) (c : Code) : Type 0 where
   pub steps : (streams n : ℕ) → IsCount streams → TicksAtMost p n → (slots : List ℕ) (st : State) → run c slots (start c streams) ≡ At st →
       length slots ≤ step_bound (largest p.body) streams n
@@ -88,3 +89,4 @@ pub record Ends (p : Program) (c : Code) : Type 0 where
       length slots ≤ step_bound (largest p.body) streams n
   pub words : (streams : ℕ) → IsCount streams → (slots : List ℕ) (st : State) → run c slots (start c streams) ≡ At st →
       live_words st ≤ word_bound (words_of_globals p) (largest p.body) streams
+  pub numbers : (streams : ℕ) → IsCount streams → (slots : List ℕ) (st : State) → run c slots (start c streams) ≡ At st → (s : ℕ) → step c s st ≡ Spent → ⊥
