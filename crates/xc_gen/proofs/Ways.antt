@@ -96,7 +96,7 @@ unspent_last code others c (inr f) e = absurd (let fall = f.1 others in cc)
 
 -- A run is a part of the way, or all of it, with the trap where it ends so.
 pub within : (code : Code) (P : Conf → Type 0) (others k : ℕ) (c d : Conf) → Way code P k c d → P d → IsLast code d → (ss : List ℕ) → IsWithin code P others k d ss (run code ss (state_of others c))
-within code P others zero c d f pd last [] = 
+within code P others zero c d f pd last [] =
     (c, refl, subst P (sym f) pd, omega arith, λ _. f, ready_last code others c (subst (IsLast code) (sym f) last), unspent code others c (unspent_last code others c (subst (IsLast code) (sym f) last)))
 within code P others zero c d f pd (inl quit) (zero ∷ ss) = stuck code P others 0 c d 0 ss (no_step code others c (ap (λ (x : Conf). x.slot) f ∙ quit))
 within code P others zero c d f pd (inr t) (zero ∷ ss) = trapped code P others c d t.0 ss f t.1
