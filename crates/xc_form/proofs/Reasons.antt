@@ -3,20 +3,22 @@ use Rattle.std.proofs.Common.{rules, ◌≡◌, ℕ, List, [], ◌∷◌, Bool, 
 use Rattle.std.specs.Prelude.{Option, Some, None, Ok, Err, Result}
 use Rattle.xc_word.specs.declared.memory.Kind.TheVariants.{ReadXx, WriteXf}
 use Rattle.xc_tree.specs.declared.operator.BinOp.TheVariants as op
-use Rattle.xc_tree.specs.declared.ty.Ty.{Ty, Int, Uint, Ptr}
+use Rattle.xc_tree.specs.declared.ty.Ty.{Ty, Int, Uint, Ptr, Future}
 use Rattle.xc_tree.specs.declared.expr.Expr.{Expr}
 use Rattle.xc_tree.specs.declared.expr.ExprKind.{ExprKind, Const, Local as Variable, Set, Global, Index, Read, Write, Update, Binary, Call}
 use Rattle.xc_tree.specs.declared.pragmas.Schedule.TheVariants.{Block as ByBlocks}
 use Rattle.xc_tree.specs.declared.pragmas.Pragmas.{Pragmas}
 use Rattle.xc_tree.specs.declared.stmt.Stmt.{Stmt}
-use Rattle.xc_tree.specs.declared.stmt.StmtKind.{StmtKind, Empty, Declare, Eval, Block, If, Loop, Return, Break}
+use Rattle.xc_tree.specs.declared.stmt.Item.{At, Do}
+use Rattle.xc_tree.specs.declared.stmt.StmtKind.{StmtKind, Empty, Declare, Eval, Block, If, Loop, Switch, Return, Break}
+use Rattle.xc_tree.specs.declared.stmt.StmtKind as stmt
 use Rattle.xc_tree.specs.declared.stmt.LoopForm.{LoopForm}
 use Rattle.xc_tree.specs.declared.stmt.LoopForm.TheVariants as form
 use Rattle.xc_tree.specs.declared.tree.Local.{Local}
 use Rattle.xc_tree.specs.declared.expr.ExprKind.TheFolds as folds
 use Rattle.xc_tree.specs.declared.expr.ExprKind.TheViews as views
-use Rattle.xc_tree.specs.declared.stmt.StmtKind.TheFolds as stmt_folds
-use Rattle.xc_tree.specs.declared.stmt.StmtKind.TheViews as stmt_views
+use Rattle.xc_tree.specs.declared.stmt.Item.TheFolds as stmt_folds
+use Rattle.xc_tree.specs.declared.stmt.Item.TheViews as stmt_views
 use Rattle.xc_tree.specs.declared.ty.Ty.TheFolds as ty_folds
 use Rattle.xc_tree.specs.declared.ty.Ty.TheViews as ty_views
 use Rattle.xc_tree.specs.declared.stmt.NotNormal.{NotNormal}
@@ -25,7 +27,7 @@ use Rattle.xc_form.specs.declared.normal.Header.{Header}
 use Rattle.xc_form.specs.Normal.{normal_form}
 use Rattle.xc_form.specs.Concurrency.{is_concurrent, all_inside}
 
-ruleset opened = (folds.the_lemmas, views.the_lemmas, stmt_folds.the_lemmas, stmt_views.the_lemmas, ty_folds.the_lemmas, ty_views.the_lemmas)
+ruleset opened = (folds.the_lemmas, views.the_lemmas, stmt_folds.the_lemmas, stmt_views.the_lemmas, stmt_views.outs-Do', ty_folds.the_lemmas, ty_views.the_lemmas)
 
 abbrev at : Ty → ExprKind → Expr
 at ty k = record { ty = ty; span = record { start = 0; end = 0 }; kind = k }
@@ -87,6 +89,11 @@ plain = search (rules, opened)
 inner_break : form_of (counts (loop form.While [] (Some n) None (does Break))) ≡ upward
 unfolding normal_form
 inner_break = search (rules, opened)
+
+-- a `break` of a `switch`
+switch_break : form_of (counts (does (Switch n (At 1 ∷ Do (does (Block (does Break ∷ []))) ∷ [])))) ≡ upward
+unfolding normal_form
+switch_break = search (rules, opened)
 
 -- `for (int i; ..)`
 declared_index : form_of (loop form.For (does (Declare 0 []) ∷ []) (less n) (adds 1) (does Empty)) ≡ upward
@@ -188,6 +195,21 @@ returns : form_of (counts (does (Return (Some n)))) ≡ Err reason.Exit
 unfolding normal_form
 returns = search (rules, opened)
 
+-- `return` inside a `switch`
+returns_in_switch : form_of (counts (does (Switch n (At 1 ∷ Do (does (Return (Some n))) ∷ [])))) ≡ Err reason.Exit
+unfolding normal_form
+returns_in_switch = search (rules, opened)
+
+-- `break` behind a `switch`
+breaks_behind_switch : form_of (counts (does (Block (does (Switch n []) ∷ does Break ∷ [])))) ≡ Err reason.Exit
+unfolding normal_form
+breaks_behind_switch = search (rules, opened)
+
+-- the body assigns the index inside a `switch`
+index_assigned_in_switch : form_of (counts (does (Switch n (At 1 ∷ Do (sets 0 (number 3)) ∷ [])))) ≡ Err reason.Assigned
+unfolding normal_form
+index_assigned_in_switch = search (rules, opened)
+
 abbrev is_team : ℕ → Stmt → Bool
 is_team marks body = is_concurrent [] (value ∷ value ∷ value ∷ []) (does (Loop 0 form.For (sets 0 (number 0) ∷ []) (less n) (adds 1) body (pragmas marks)))
 
@@ -195,6 +217,11 @@ is_team marks body = is_concurrent [] (value ∷ value ∷ value ∷ []) (does (
 asserted : is_team 1 (does (Block (does (Declare 2 []) ∷ sets 2 n ∷ []))) ≡ true
 unfolding normal_form all_inside
 asserted = search (rules, opened)
+
+-- `future` of a body that assigns its copy
+copy_assigned : is_team 1 (does (stmt.Future (at (Ptr (Future Int)) (Global 0)) (record { from = n; local = 2 } ∷ []) (does (Block (sets 2 (number 3) ∷ []))))) ≡ true
+unfolding normal_form all_inside
+copy_assigned = search (rules, opened)
 
 -- the body assigns a local from outside
 outer_assigned : is_team 1 (sets 2 n) ≡ false

@@ -3,7 +3,8 @@ use Rattle.std.specs.Prelude.{ℕ, Bool, true, false, ◌&&◌, ◌==◌, not, i
 use Rattle.xc_tree.specs.declared.pragmas.Marks.{Marks}
 use Rattle.xc_tree.specs.declared.stmt.Stmt.{Stmt}
 use Rattle.xc_tree.specs.declared.stmt.StmtKind.{StmtKind, out-StmtKind}
-use Rattle.xc_tree.specs.declared.stmt.StmtKind.TheOpen.{StmtKind-F}
+use Rattle.xc_tree.specs.declared.stmt.Item.{Item}
+use Rattle.xc_tree.specs.declared.stmt.Item.TheOpen.{StmtKind-F}
 use Rattle.xc_tree.specs.declared.tree.Local.{Local}
 use Rattle.xc_tree.specs.Lists.{every, some}
 use Rattle.xc_form.specs.declared.effect.Effect.{Effect}
@@ -30,7 +31,7 @@ all_inside es = every (map (keeps_inside es) es)
 abbrev pub is_asserted : Marks → Bool
 is_asserted m = (bit_and m.0 1 == 1) && not (bit_and m.0 2 == 2)
 
-abbrev pub body_inside : StmtKind-F StmtKind Stmt → Bool
+abbrev pub body_inside : StmtKind-F Item StmtKind Stmt → Bool
 body_inside (StmtKind-F.Loop id _ init test step body pragmas) = is_asserted pragmas.marks && all_inside (stmt_effects body)
 body_inside _ = false
 

@@ -1,4 +1,5 @@
--- What an expression or a statement does, in the order of C99 6.5 and 6.8, each branch once and each loop once.
+-- What an expression or a statement does, in the order of C99 6.5 and 6.8, each branch, each loop and each statement of a
+-- `switch` once.
 use Rattle.std.specs.Prelude.{ℕ, Bool, false, ◌==◌, cond, List, [], ◌∷◌, ◌++◌, map, Option, Some, None}
 use Rattle.xc_word.specs.declared.memory.Kind.{Kind}
 use Rattle.xc_word.specs.declared.memory.Kind.TheVariants as kind
@@ -10,9 +11,10 @@ use Rattle.xc_tree.specs.declared.expr.ExprKind.TheOpen.{ExprKind-F}
 use Rattle.xc_tree.specs.declared.expr.ExprKind.TheFolds.{fold-Expr}
 use Rattle.xc_tree.specs.declared.stmt.Stmt.{Stmt}
 use Rattle.xc_tree.specs.declared.stmt.Capture.{Capture}
-use Rattle.xc_tree.specs.declared.stmt.StmtKind.TheOpen.{StmtKind-F}
-use Rattle.xc_tree.specs.declared.stmt.StmtKind.TheFolds.{fold-Stmt}
+use Rattle.xc_tree.specs.declared.stmt.Item.TheOpen.{StmtKind-F}
+use Rattle.xc_tree.specs.declared.stmt.Item.TheFolds.{fold-Stmt}
 use Rattle.xc_tree.specs.Lists.{joined}
+use Rattle.xc_tree.specs.Walk.{of_item}
 use Rattle.xc_tree.specs.Types.{is_void, array_under}
 use Rattle.xc_tree.specs.Kinds.{read_kind, write_kind}
 use Rattle.xc_form.specs.declared.effect.Effect.{Effect}
@@ -133,8 +135,12 @@ maybe_effects (Some e) = expr_effects e
 abbrev pub inits_effects : List (ℕ × Expr) → List Effect
 inits_effects init = joined (map (λ i. expr_effects i.1) init)
 
+-- a copy is declared in the body, of which it is an object
+abbrev pub capture_effects : Capture → List Effect
+capture_effects c = expr_effects c.from ++ effect.Declare c.local ∷ []
+
 abbrev pub captures_effects : List Capture → List Effect
-captures_effects captures = joined (map (λ c. expr_effects c.from) captures)
+captures_effects captures = joined (map capture_effects captures)
 
 abbrev pub else_effects : Option (List Effect) → List Effect
 else_effects None = []
@@ -147,7 +153,7 @@ start_effects place captures = expr_effects place ++ (effect.Write (root_of plac
 abbrev pub future_effects : Expr → List Capture → List Effect → List Effect
 future_effects place captures body = start_effects place captures ++ (body ++ effect.Write (root_of place) kind.WriteXf ∷ [])
 
-abbrev pub stmt_effects_step : StmtKind-F (List Effect) (List Effect) → List Effect
+abbrev pub stmt_effects_step : StmtKind-F (List Effect) (List Effect) (List Effect) → List Effect
 stmt_effects_step StmtKind-F.Empty = []
 stmt_effects_step (StmtKind-F.Declare x init) = inits_effects init ++ effect.Declare x ∷ []
 stmt_effects_step (StmtKind-F.Eval e) = expr_effects e
@@ -155,10 +161,11 @@ stmt_effects_step (StmtKind-F.Block all) = joined all
 stmt_effects_step (StmtKind-F.If test then other) = expr_effects test ++ (then ++ else_effects other)
 stmt_effects_step (StmtKind-F.Loop id _ init test step body pragmas) =
     effect.Loop id ∷ (joined init ++ (maybe_effects test ++ (body ++ maybe_effects step)))
+stmt_effects_step (StmtKind-F.Switch value items) = expr_effects value ++ joined items
 stmt_effects_step (StmtKind-F.Return e) = maybe_effects e
 stmt_effects_step StmtKind-F.Break = []
 stmt_effects_step StmtKind-F.Continue = []
 stmt_effects_step (StmtKind-F.Future place captures body) = future_effects place captures body
 
 abbrev pub stmt_effects : Stmt → List Effect
-stmt_effects = fold-Stmt (List Effect) (List Effect) stmt_effects_step (λ s. s.kind)
+stmt_effects = fold-Stmt (List Effect) (List Effect) (List Effect) (of_item []) stmt_effects_step (λ s. s.kind)

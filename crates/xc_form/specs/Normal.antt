@@ -9,10 +9,12 @@ use Rattle.xc_tree.specs.declared.stmt.Stmt.{Stmt}
 use Rattle.xc_tree.specs.declared.stmt.LoopForm.{LoopForm}
 use Rattle.xc_tree.specs.declared.stmt.LoopForm.TheVariants as form
 use Rattle.xc_tree.specs.declared.stmt.StmtKind.{StmtKind, out-StmtKind}
-use Rattle.xc_tree.specs.declared.stmt.StmtKind.TheOpen.{StmtKind-F}
-use Rattle.xc_tree.specs.declared.stmt.StmtKind.TheFolds.{fold-Stmt}
+use Rattle.xc_tree.specs.declared.stmt.Item.{Item}
+use Rattle.xc_tree.specs.declared.stmt.Item.TheOpen.{StmtKind-F}
+use Rattle.xc_tree.specs.declared.stmt.Item.TheFolds.{fold-Stmt}
 use Rattle.xc_tree.specs.declared.tree.Local.{Local}
 use Rattle.xc_tree.specs.Lists.{some, passes}
+use Rattle.xc_tree.specs.Walk.{of_item}
 use Rattle.xc_form.specs.declared.effect.Effect.{Effect}
 use Rattle.xc_tree.specs.declared.stmt.NotNormal.{NotNormal}
 use Rattle.xc_tree.specs.declared.stmt.NotNormal.TheVariants as reason
@@ -33,7 +35,7 @@ set_at int _ = None
 abbrev pub is_int_variable : Option Local → Bool
 is_int_variable l = passes (λ l. not l.addressed && is_int l.ty) l
 
-abbrev pub clause_index : List Local → StmtKind-F StmtKind Stmt → Option ℕ
+abbrev pub clause_index : List Local → StmtKind-F Item StmtKind Stmt → Option ℕ
 clause_index ls (StmtKind-F.Eval e) = set_at (is_int e.ty) (out-ExprKind e.kind)
 clause_index ls (StmtKind-F.Declare x init) = cond (is_int_variable (slice_get ls x)) (Some x) None
 clause_index ls _ = None
@@ -125,19 +127,25 @@ step_of x o (Some e) = option_and_then (toward o) (any_step x e)
 
 -- the body ---------------------------------------------------------------
 
--- whether a statement leaves a loop around it; `here` tells whether its `break` leaves that loop
-abbrev pub exits_step : StmtKind-F (Bool → Bool) (Bool → Bool) → Bool → Bool
+-- a label, and what else leaves no loop
+abbrev pub stays : Bool → Bool
+stays here = false
+
+-- whether a statement leaves a loop around it; `here` tells whether its `break` leaves that loop. A `break` that leaves a
+-- `switch` is no `break` of a loop
+abbrev pub exits_step : StmtKind-F (Bool → Bool) (Bool → Bool) (Bool → Bool) → Bool → Bool
 exits_step (StmtKind-F.Block all) here = some (map (λ s. s here) all)
 exits_step (StmtKind-F.If test then None) here = then here
 exits_step (StmtKind-F.If test then (Some other)) here = then here || other here
 exits_step (StmtKind-F.Loop id _ init test step body pragmas) here = body false
+exits_step (StmtKind-F.Switch value items) here = some (map (λ s. s false) items)
 exits_step (StmtKind-F.Return e) here = true
 exits_step StmtKind-F.Break here = here
-exits_step _ here = false
+exits_step _ here = stays here
 
 -- what leaves the body of a `future` statement leaves no loop
 abbrev pub exits : Stmt → Bool → Bool
-exits = fold-Stmt (Bool → Bool) (Bool → Bool) exits_step (λ s. s.kind)
+exits = fold-Stmt (Bool → Bool) (Bool → Bool) (Bool → Bool) (of_item stays) exits_step (λ s. s.kind)
 
 -- normal form ------------------------------------------------------------
 
@@ -162,7 +170,7 @@ by_form pures es ls form.While init test step body = Err reason.While
 by_form pures es ls form.Do init test step body = Err reason.Do
 by_form pures es ls form.For init test step body = with_index pures es (index_of ls init) test step body
 
-abbrev pub form_at : List Bool → List Effect → List Local → StmtKind-F StmtKind Stmt → Result Header NotNormal
+abbrev pub form_at : List Bool → List Effect → List Local → StmtKind-F Item StmtKind Stmt → Result Header NotNormal
 form_at pures es ls (StmtKind-F.Loop id f init test step body pragmas) = by_form pures es ls f init test step body
 form_at pures es ls _ = Err reason.While
 
@@ -170,7 +178,7 @@ form_at pures es ls _ = Err reason.While
 unfoldable pub normal_form : List Bool → List Local → Stmt → Result Header NotNormal
 normal_form pures ls s = form_at pures (stmt_effects s) ls (out-StmtKind s.kind)
 
-abbrev pub loop_at : StmtKind-F StmtKind Stmt → Bool
+abbrev pub loop_at : StmtKind-F Item StmtKind Stmt → Bool
 loop_at (StmtKind-F.Loop id _ init test step body pragmas) = true
 loop_at _ = false
 

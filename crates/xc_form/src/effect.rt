@@ -3,12 +3,12 @@
 ghost use Rattle.std.specs.Prelude.{◌≡◌, ◌++◌, [], ◌∷◌, OnOk, IfOk};
 ghost use Rattle.xc_tree.specs.Types.{is_void, array_under};
 ghost use Rattle.xc_tree.specs.Kinds.{read_kind, write_kind};
-ghost use Rattle.xc_form.specs.Effects.{root_of, local_of, is_exact, expr_effects, inits_effects, maybe_effects, captures_effects, start_effects, stmt_effects};
-ghost use Rattle.xc_form.specs.InnerEffects.{array_root, is_zero, written_root, exprs_effects, stmts_effects};
+ghost use Rattle.xc_form.specs.Effects.{root_of, local_of, is_exact, expr_effects, inits_effects, maybe_effects, capture_effects, captures_effects, start_effects, stmt_effects};
+ghost use Rattle.xc_form.specs.InnerEffects.{array_root, is_zero, written_root, exprs_effects, stmts_effects, item_effects, items_effects};
 
 use sqlite_items::Items;
 use std::alloc::{AllocError, Global};
-use xc_tree::{Capture, Expr, ExprKind, Root, Stmt, StmtKind, Ty};
+use xc_tree::{Capture, Expr, ExprKind, Item, Root, Stmt, StmtKind, Ty};
 use xc_word::Kind;
 
 /// One thing that is done. The root of an access is the named object that it lies in; through a pointer, and by a
@@ -17,7 +17,7 @@ use xc_word::Kind;
 pub enum Effect {
     /// Gives a local that has no address a value.
     Set(u32),
-    /// Declares a local, after its initialisers.
+    /// Declares a local, after its initialisers; a copy of a `future` statement, after what it copies.
     Declare(u32),
     /// Reads a cell.
     Read { root: Root, kind: Kind },
@@ -308,11 +308,18 @@ fn collect_inits(out: &mut Vec<Effect>, list: &[(u32, Expr)]) -> Result<(), Allo
     Ok(())
 }
 
+fn collect_capture(out: &mut Vec<Effect>, capture: &Capture) -> Result<(), AllocError>
+    ensures { OnOk result (out.new.items ≡ out.old.items ++ capture_effects capture.now) }
+{
+    collect_expr(out, &capture.from)?;
+    put(out, Effect::Declare(capture.local))
+}
+
 fn collect_captures(out: &mut Vec<Effect>, list: &[Capture]) -> Result<(), AllocError>
     ensures { OnOk result (out.new.items ≡ out.old.items ++ captures_effects list.now) }
 {
     for c in list {
-        collect_expr(out, &c.from)?;
+        collect_capture(out, c)?;
     }
     Ok(())
 }
@@ -381,6 +388,10 @@ fn collect_stmt(out: &mut Vec<Effect>, s: &Stmt) -> Result<(), AllocError>
             collect_stmt(out, body.get())?;
             collect_maybe(out, step)
         }
+        StmtKind::Switch { value, items } => {
+            collect_expr(out, value)?;
+            collect_items(out, items.as_slice())
+        }
         StmtKind::Return(e) => collect_maybe(out, e),
         StmtKind::Future {
             place,
@@ -410,6 +421,26 @@ fn collect_stmts(out: &mut Vec<Effect>, list: &[Stmt]) -> Result<(), AllocError>
     Ok(())
 }
 
+#[cycle(statement)]
+fn collect_item(out: &mut Vec<Effect>, item: &Item) -> Result<(), AllocError>
+    ensures { OnOk result (out.new.items ≡ out.old.items ++ item_effects item.now) }
+{
+    match item {
+        Item::At(_) | Item::Other => Ok(()),
+        Item::Do(s) => collect_stmt(out, s),
+    }
+}
+
+#[cycle(statement)]
+fn collect_items(out: &mut Vec<Effect>, list: &[Item]) -> Result<(), AllocError>
+    ensures { OnOk result (out.new.items ≡ out.old.items ++ items_effects list.now) }
+{
+    for item in list {
+        collect_item(out, item)?;
+    }
+    Ok(())
+}
+
 /// What an expression does, in order.
 pub fn effects_of_expr(alloc: Global, e: &Expr) -> Result<Items<Effect>, AllocError>
     ensures { IfOk result (λ r. r ≡ expr_effects e.now) }
@@ -419,7 +450,7 @@ pub fn effects_of_expr(alloc: Global, e: &Expr) -> Result<Items<Effect>, AllocEr
     Ok(Items::from_vec(out))
 }
 
-/// What a statement does, in order, each branch once and each loop once.
+/// What a statement does, in order, each branch, each loop and each statement of a `switch` once.
 pub fn effects_of(alloc: Global, s: &Stmt) -> Result<Items<Effect>, AllocError>
     ensures { IfOk result (λ r. r ≡ stmt_effects s.now) }
 {

@@ -2,12 +2,12 @@
 
 ghost use Rattle.std.specs.Prelude.{◌≡◌, IsTrue, IfOk, slice_get};
 ghost use Rattle.xc_form.specs.Normal.{is_int_variable, index_of, is_order, is_local, order_of, bound_ok, step_by, constant_step, amount, sum_step, any_step, step_of, toward, exits, with_body, normal_form, is_loop};
-ghost use Rattle.xc_form.specs.InnerNormal.{any_exits};
+ghost use Rattle.xc_form.specs.InnerNormal.{any_exits, item_exits, any_item_exits};
 
 use crate::change::{is_assigned, is_unchanging};
 use crate::effect::{Effect, effects_of, local_of};
 use std::alloc::{AllocError, Global};
-use xc_tree::{BinOp, Expr, ExprKind, Local, LoopForm, NotNormal, Stmt, StmtKind};
+use xc_tree::{BinOp, Expr, ExprKind, Item, Local, LoopForm, NotNormal, Stmt, StmtKind};
 use xc_tree_words::{constant, is_int, is_uint};
 
 /// What is added to the index, or taken from it.
@@ -240,6 +240,7 @@ fn exits(s: &Stmt, here: bool) -> bool
             body,
             pragmas: _,
         } => exits(body.get(), false),
+        StmtKind::Switch { value: _, items } => any_item_exits(items.as_slice(), false),
         StmtKind::Return(_) => true,
         StmtKind::Break => here,
         _ => false,
@@ -253,6 +254,29 @@ fn any_exits(list: &[Stmt], here: bool) -> bool
 {
     for s in list {
         if exits(s, here) {
+            return true;
+        }
+    }
+    false
+}
+
+#[cycle(exits)]
+fn item_exits(item: &Item, here: bool) -> bool
+    ensures { result ≡ item_exits item.now here }
+{
+    match item {
+        Item::At(_) | Item::Other => false,
+        Item::Do(s) => exits(s, here),
+    }
+}
+
+#[cycle(exits)]
+#[tactic(auto, using(crate::proofs::Walks::walk_rules))]
+fn any_item_exits(list: &[Item], here: bool) -> bool
+    ensures { result ≡ any_item_exits list.now here }
+{
+    for item in list {
+        if item_exits(item, here) {
             return true;
         }
     }

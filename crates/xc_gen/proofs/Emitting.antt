@@ -9,8 +9,8 @@ use Rattle.xc_tree.specs.declared.operator.UnOp.{UnOp}
 use Rattle.xc_tree.specs.declared.expr.Expr.{Expr}
 use Rattle.xc_tree.specs.declared.expr.ExprKind.TheFolds as folds
 use Rattle.xc_tree.specs.declared.expr.ExprKind.TheViews as views
-use Rattle.xc_tree.specs.declared.stmt.StmtKind.TheFolds as stmt_folds
-use Rattle.xc_tree.specs.declared.stmt.StmtKind.TheViews as stmt_views
+use Rattle.xc_tree.specs.declared.stmt.Item.TheFolds as stmt_folds
+use Rattle.xc_tree.specs.declared.stmt.Item.TheViews as stmt_views
 use Rattle.xc_isa.specs.declared.instr.Instr.{Instr}
 use Rattle.xc_isa.specs.declared.instr.Instr.TheVariants as instr
 use Rattle.xc_isa.specs.declared.instr.Test.{Test}

@@ -11,8 +11,8 @@ use Rattle.xc_tree.specs.declared.tree.Object.{Object}
 use Rattle.xc_tree.specs.declared.tree.Func.{Func}
 use Rattle.xc_tree.specs.declared.expr.ExprKind.TheFolds as folds
 use Rattle.xc_tree.specs.declared.expr.ExprKind.TheViews as views
-use Rattle.xc_tree.specs.declared.stmt.StmtKind.TheFolds as stmt_folds
-use Rattle.xc_tree.specs.declared.stmt.StmtKind.TheViews as stmt_views
+use Rattle.xc_tree.specs.declared.stmt.Item.TheFolds as stmt_folds
+use Rattle.xc_tree.specs.declared.stmt.Item.TheViews as stmt_views
 use Rattle.xc_tree.specs.declared.ty.Ty.TheFolds as ty_folds
 use Rattle.xc_tree.specs.declared.ty.Ty.TheViews as ty_views
 use Rattle.xc_tree.specs.Lists.{distinct, ascending, same_numbers}

@@ -1,6 +1,6 @@
 -- What is well typed and has no form without code names globals that are there, and prints as its formats say.
 use Rattle.std.proofs.Common.{◌≡◌, ℕ, zero, suc, ◌+◌, ◌<◌, ◌≤◌, List, [], ◌∷◌, length, map, get_or, Option, Some, None, Bool, true, false, cond, refl, sym, ap, ◌∙◌, subst, arith}
-use Rattle.std.specs.Prelude.{IsTrue, ◌==◌, nat_le, slice_get}
+use Rattle.std.specs.Prelude.{IsTrue, ⊤, ◌==◌, nat_le, slice_get}
 use Rattle.std.specs.Option.{option_map}
 use Rattle.std.proofs.lemmas.Bool.{ltb-true, leb-true, eqb-true}
 use Rattle.xc_text_place.specs.declared.Span.{Span}
@@ -24,17 +24,19 @@ use Rattle.xc_tree.specs.declared.ty.Ty.TheOpen.{Ty-F}
 use Rattle.xc_tree.specs.declared.ty.Ty.TheFolds.{fold_out-Ty, map-Ty}
 use Rattle.xc_tree.specs.declared.stmt.Stmt.{Stmt, roll-Stmt}
 use Rattle.xc_tree.specs.declared.stmt.StmtKind.{StmtKind, roll-StmtKind}
-use Rattle.xc_tree.specs.declared.stmt.StmtKind.TheOpen.{StmtKind-F}
-use Rattle.xc_tree.specs.declared.stmt.StmtKind.TheFolds.{fold-StmtKind, fold-roll-StmtKind, fold-roll-Stmt, ind-Stmt, map-StmtKind}
+use Rattle.xc_tree.specs.declared.stmt.Item.{Item}
+use Rattle.xc_tree.specs.declared.stmt.Item.TheOpen.{StmtKind-F}
+use Rattle.xc_tree.specs.declared.stmt.Item.TheFolds.{fold-StmtKind, fold-Item, fold-roll-StmtKind, fold-roll-Stmt, ind-Stmt, map-StmtKind}
 use Rattle.xc_tree.specs.declared.tree.Object.{Object}
 use Rattle.xc_tree.specs.declared.tree.Func.{Func}
 use Rattle.xc_tree.specs.declared.tree.Tree.{Tree}
 use Rattle.xc_tree.specs.Types.{Shape, Formed, form_step as form_step_of, formed, size_of, number_at}
-use Rattle.xc_tree.specs.Statements.{stmt_step, stmt_ok}
+use Rattle.xc_tree.specs.Walk.{of_item}
+use Rattle.xc_tree.specs.Statements.{Labelled, label_step, stmt_step, stmt_ok}
 use Rattle.xc_tree.specs.Valid.{func_ok}
 use Rattle.xc_tree.specs.Around.{context_of, shapes_of}
 use Rattle.xc_tree.proofs.Parts.{tree_test, func_typed}
-use Rattle.xc_meaning.specs.Terms.{Command, Commands, End, Then, command_in, command_of, commands_of, cells_from, cells_of, body_of, program_of}
+use Rattle.xc_meaning.specs.Terms.{Command, Empty, Commands, End, Then, command_in, command_of, commands_of, cells_from, cells_of, body_of, program_of}
 use Rattle.xc_gen.specs.Unbuilt.{first_done, first_among, first_global, first_func, unbuilt_of}
 use Rattle.xc_gen.specs.Globals.{cell_of}
 use Rattle.xc_gen.specs.Fits.{NamesIn, AllNamesIn, PrintsIn, AllPrintsIn}
@@ -230,10 +232,20 @@ module _ (cx : Context) where
     pub fits : first_done s ≡ None → NamesIn n s × PrintsIn fs s
 
   abbrev ok_of : StmtKind → Bool
-  ok_of = fold-StmtKind Bool Bool (stmt_step cx) (λ s. s.kind)
+  ok_of = fold-StmtKind Labelled Bool Bool label_step (stmt_step cx) (λ s. s.kind)
+
+  abbrev ok_item : Item → Labelled
+  ok_item = fold-Item Labelled Bool Bool label_step (stmt_step cx) (λ s. s.kind)
 
   abbrev deed_of : StmtKind → Span → Command
-  deed_of = fold-StmtKind (Span → Command) Command command_in (λ s. s.kind s.span)
+  deed_of = fold-StmtKind Command (Span → Command) Command (of_item Empty) command_in (λ s. s.kind s.span)
+
+  abbrev deed_item : Item → Command
+  deed_item = fold-Item Command (Span → Command) Command (of_item Empty) command_in (λ s. s.kind s.span)
+
+  -- no `switch` has code yet, so nothing is asked of its items
+  abbrev KeptItem : Item → Type 0
+  KeptItem i = ⊤
 
   abbrev KeptStmtKind : StmtKind → Type 0
   KeptStmtKind k = (span : Span) → IsTrue (ok_of k) → GoodCommand (deed_of k span)
@@ -247,14 +259,17 @@ module _ (cx : Context) where
   abbrev StmtKindChild : Type 0
   StmtKindChild = (k : StmtKind) × KeptStmtKind k
 
-  abbrev stmt_layer : StmtKind-F StmtKindChild StmtChild → StmtKind-F StmtKind Stmt
-  stmt_layer y = map-StmtKind StmtKindChild StmtChild StmtKind Stmt (λ k. k.0) (λ s. s.0) y
+  abbrev ItemChild : Type 0
+  ItemChild = (i : Item) × KeptItem i
 
-  abbrev ok_layer : StmtKind-F StmtKindChild StmtChild → StmtKind-F Bool Bool
-  ok_layer y = map-StmtKind StmtKind Stmt Bool Bool ok_of (stmt_ok cx) (stmt_layer y)
+  abbrev stmt_layer : StmtKind-F ItemChild StmtKindChild StmtChild → StmtKind-F Item StmtKind Stmt
+  stmt_layer y = map-StmtKind ItemChild StmtKindChild StmtChild Item StmtKind Stmt (λ i. i.0) (λ k. k.0) (λ s. s.0) y
 
-  abbrev deed_layer : StmtKind-F StmtKindChild StmtChild → StmtKind-F (Span → Command) Command
-  deed_layer y = map-StmtKind StmtKind Stmt (Span → Command) Command deed_of command_of (stmt_layer y)
+  abbrev ok_layer : StmtKind-F ItemChild StmtKindChild StmtChild → StmtKind-F Labelled Bool Bool
+  ok_layer y = map-StmtKind Item StmtKind Stmt Labelled Bool Bool ok_item ok_of (stmt_ok cx) (stmt_layer y)
+
+  abbrev deed_layer : StmtKind-F ItemChild StmtKindChild StmtChild → StmtKind-F Command (Span → Command) Command
+  deed_layer y = map-StmtKind Item StmtKind Stmt Command (Span → Command) Command deed_item deed_of command_of (stmt_layer y)
 
   unbuilt_command : (span : Span) → GoodCommand (Command.Unbuilt span)
   unbuilt_command span = record { fits = λ e. absurd cc }
@@ -273,13 +288,14 @@ module _ (cx : Context) where
       let rest = all_good ss (earlier found (first_done c)) (and_right (stmt_ok cx s.0) _ h) u in
       ((here.0, rest.0), (here.1, rest.1))
 
-  stmt_level : (y : StmtKind-F StmtKindChild StmtChild) (span : Span) → IsTrue (stmt_step cx (ok_layer y)) → GoodCommand (command_in (deed_layer y) span)
+  stmt_level : (y : StmtKind-F ItemChild StmtKindChild StmtChild) (span : Span) → IsTrue (stmt_step cx (ok_layer y)) → GoodCommand (command_in (deed_layer y) span)
   stmt_level StmtKind-F.Empty span h = record { fits = λ e. (tt, tt) }
   stmt_level (StmtKind-F.Declare x init) span h = unbuilt_command span
   stmt_level (StmtKind-F.Eval e) span h = record { fits = (term_good e (and_left _ _ h)).fits }
   stmt_level (StmtKind-F.Block all) span h = record { fits = all_good all None h }
   stmt_level (StmtKind-F.If test a b) span h = unbuilt_command span
   stmt_level (StmtKind-F.Loop id f init test step body pragmas) span h = unbuilt_command span
+  stmt_level (StmtKind-F.Switch value items) span h = unbuilt_command span
   stmt_level (StmtKind-F.Return None) span h = unbuilt_command span
   stmt_level (StmtKind-F.Return (Some e)) span h = record { fits = (term_good e (and_left _ _ h)).fits }
   stmt_level StmtKind-F.Break span h = unbuilt_command span
@@ -287,14 +303,15 @@ module _ (cx : Context) where
   stmt_level (StmtKind-F.Future place captures body) span h = unbuilt_command span
 
   pub command_good : (s : Stmt) → IsTrue (stmt_ok cx s) → GoodCommand (command_of s)
-  command_good = ind-Stmt KeptStmtKind KeptStmt
+  command_good = ind-Stmt KeptItem KeptStmtKind KeptStmt
+      (λ x y is. tt)
       (λ x y is. subst (λ z. KeptStmtKind (roll-StmtKind z)) is (λ span h.
-      let ok_same = fold-roll-StmtKind Bool Bool (stmt_step cx) (λ s. s.kind) (stmt_layer y) in
-      let deed_same = fold-roll-StmtKind (Span → Command) Command command_in (λ s. s.kind s.span) (stmt_layer y) in
+      let ok_same = fold-roll-StmtKind Labelled Bool Bool label_step (stmt_step cx) (λ s. s.kind) (stmt_layer y) in
+      let deed_same = fold-roll-StmtKind Command (Span → Command) Command (of_item Empty) command_in (λ s. s.kind s.span) (stmt_layer y) in
       subst (λ d. GoodCommand (d span)) (sym deed_same) (stmt_level y span (subst IsTrue ok_same h))))
       (λ x y is. subst (λ z. KeptStmt (roll-Stmt z)) is (λ h.
-      let ok_same = fold-roll-Stmt Bool Bool (stmt_step cx) (λ s. s.kind) (record { span = y.span; kind = y.kind.0 }) in
-      let deed_same = fold-roll-Stmt (Span → Command) Command command_in (λ s. s.kind s.span) (record { span = y.span; kind = y.kind.0 }) in
+      let ok_same = fold-roll-Stmt Labelled Bool Bool label_step (stmt_step cx) (λ s. s.kind) (record { span = y.span; kind = y.kind.0 }) in
+      let deed_same = fold-roll-Stmt Command (Span → Command) Command (of_item Empty) command_in (λ s. s.kind s.span) (record { span = y.span; kind = y.kind.0 }) in
       subst GoodCommand (sym deed_same) (y.kind.1 y.span (subst IsTrue ok_same h))))
 
 -- ---- the whole program

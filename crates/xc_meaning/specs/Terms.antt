@@ -11,12 +11,13 @@ use Rattle.xc_tree.specs.declared.expr.Expr.{Expr}
 use Rattle.xc_tree.specs.declared.expr.ExprKind.TheOpen.{ExprKind-F}
 use Rattle.xc_tree.specs.declared.expr.ExprKind.TheFolds.{fold-Expr}
 use Rattle.xc_tree.specs.declared.stmt.Stmt.{Stmt}
-use Rattle.xc_tree.specs.declared.stmt.StmtKind.TheOpen.{StmtKind-F}
-use Rattle.xc_tree.specs.declared.stmt.StmtKind.TheFolds.{fold-Stmt}
+use Rattle.xc_tree.specs.declared.stmt.Item.TheOpen.{StmtKind-F}
+use Rattle.xc_tree.specs.declared.stmt.Item.TheFolds.{fold-Stmt}
 use Rattle.xc_tree.specs.declared.tree.Object.{Object}
 use Rattle.xc_tree.specs.declared.tree.Func.{Func}
 use Rattle.xc_tree.specs.declared.tree.Tree.{Tree}
 use Rattle.xc_tree.specs.Types.{is_number, size_of}
+use Rattle.xc_tree.specs.Walk.{of_item}
 use Rattle.xc_tree.specs.Around.{shapes_of}
 use Rattle.xc_tree_words.specs.Words.{works_on_uint}
 
@@ -121,7 +122,7 @@ abbrev pub commands_of : List Command → Commands
 commands_of [] = End
 commands_of (s ∷ ss) = Then s (commands_of ss)
 
-abbrev pub command_in : StmtKind-F (Span → Command) Command → Span → Command
+abbrev pub command_in : StmtKind-F Command (Span → Command) Command → Span → Command
 command_in StmtKind-F.Empty at = Empty
 command_in (StmtKind-F.Eval e) at = Eval (term_of e)
 command_in (StmtKind-F.Block all) at = Block (commands_of all)
@@ -129,7 +130,7 @@ command_in (StmtKind-F.Return (Some e)) at = Return (term_of e)
 command_in _ at = Command.Unbuilt at
 
 abbrev pub command_of : Stmt → Command
-command_of = fold-Stmt (Span → Command) Command command_in (λ s. s.kind s.span)
+command_of = fold-Stmt Command (Span → Command) Command (of_item Empty) command_in (λ s. s.kind s.span)
 
 -- the first cells of an object, which has so many; those past them are full and 0
 abbrev pub cells_from : ℕ → List (ℕ × Bool) → List Cell

@@ -3,7 +3,7 @@ use Rattle.std.proofs.Common.{rules, ℕ, List, [], ◌∷◌, Bool, true, false
 use Rattle.std.specs.Prelude.{Some, codes, ◌+◌, ◌*◌, ◌^◌}
 use Rattle.xc_tree.specs.declared.ty.Ty.{Ty, Void, Int, Uint, Ptr, Array, Struct, Sync}
 use Rattle.xc_tree.specs.declared.stmt.Stmt.{Stmt}
-use Rattle.xc_tree.specs.declared.stmt.StmtKind.{Declare, Block, Return, Break}
+use Rattle.xc_tree.specs.declared.stmt.StmtKind.{Declare, Return, Break}
 use Rattle.xc_tree.specs.declared.tree.Local.{Local}
 use Rattle.xc_tree.specs.declared.tree.Object.{Object}
 use Rattle.xc_tree.specs.declared.tree.Func.{Func}
@@ -13,13 +13,13 @@ use Rattle.xc_tree.specs.Formats.{taken_from}
 use Rattle.xc_tree.specs.Typed.{rule, are_values}
 use Rattle.xc_tree.specs.Statements.{pragmas_ok}
 use Rattle.xc_tree.specs.Valid.{func_ok, global_ok, globals_fit, tree_ok}
-use Rattle.xc_tree.proofs.Samples.{opened_all, Parts, does, value, object, global, number, variable, pragmas, repeats, function, one}
+use Rattle.xc_tree.proofs.Samples.{opened_all, Parts, does, block, value, object, global, number, variable, pragmas, repeats, function, one}
 
 abbrev nothing : Stmt
-nothing = does (Block [])
+nothing = block []
 
 abbrev main_of : List Local → List Stmt → Func
-main_of locals all = function 0 locals Int (does (Block all))
+main_of locals all = function 0 locals Int (block all)
 
 abbrev main : Func
 main = main_of [] []
@@ -62,9 +62,15 @@ body_leaves : Parts (program (does (Return (Some (number 0))) ∷ []) 0)
 unfolding rule are_values shapes_within is_mixed taken_from tree_ok func_ok global_ok globals_fit structs_ok distinct same_numbers pragmas_ok ascending
 body_leaves = search (rules, opened_all)
 
+-- a body is a block
+body_is_block : Parts (with_func (function 0 [] Int (block (does (Return (Some (number 0))) ∷ []))))
+    (with_func (function 0 [] Int (does (Return (Some (number 0))))))
+unfolding rule are_values shapes_within is_mixed taken_from tree_ok func_ok global_ok globals_fit structs_ok distinct same_numbers pragmas_ok ascending
+body_is_block = search (rules, opened_all)
+
 -- what a body sees
 body_sees_parameters : Parts (with_func one)
-    (with_func (function 0 (value Int ∷ []) Int (does (Return (Some (variable 0))))))
+    (with_func (function 0 (value Int ∷ []) Int (block (does (Return (Some (variable 0))) ∷ []))))
 unfolding rule are_values shapes_within is_mixed taken_from tree_ok func_ok global_ok globals_fit structs_ok distinct same_numbers pragmas_ok ascending
 body_sees_parameters = search (rules, opened_all)
 
@@ -171,8 +177,8 @@ unfolding rule are_values shapes_within is_mixed taken_from tree_ok func_ok glob
 declared_once = search (rules, opened_all)
 
 -- a parameter is not declared again
-parameter_declared_once : Parts (with_func (function 1 (value Int ∷ value Int ∷ []) Int (does (Declare 1 []))))
-    (with_func (function 1 (value Int ∷ value Int ∷ []) Int (does (Declare 0 []))))
+parameter_declared_once : Parts (with_func (function 1 (value Int ∷ value Int ∷ []) Int (block (does (Declare 1 []) ∷ []))))
+    (with_func (function 1 (value Int ∷ value Int ∷ []) Int (block (does (Declare 0 []) ∷ []))))
 unfolding rule are_values shapes_within is_mixed taken_from tree_ok func_ok global_ok globals_fit structs_ok distinct same_numbers pragmas_ok ascending
 parameter_declared_once = search (rules, opened_all)
 

@@ -15,14 +15,14 @@ use Rattle.xc_tree.specs.declared.tree.Object.{Object}
 use Rattle.xc_tree.specs.declared.tree.Func.{Func}
 use Rattle.xc_tree.specs.declared.expr.ExprKind.TheFolds as folds
 use Rattle.xc_tree.specs.declared.expr.ExprKind.TheViews as views
-use Rattle.xc_tree.specs.declared.stmt.StmtKind.TheFolds as stmt_folds
-use Rattle.xc_tree.specs.declared.stmt.StmtKind.TheViews as stmt_views
+use Rattle.xc_tree.specs.declared.stmt.Item.TheFolds as stmt_folds
+use Rattle.xc_tree.specs.declared.stmt.Item.TheViews as stmt_views
 use Rattle.xc_tree.specs.declared.ty.Ty.TheFolds as ty_folds
 use Rattle.xc_tree.specs.declared.ty.Ty.TheViews as ty_views
 
 pub ruleset opened = (folds.the_lemmas, views.the_lemmas, ty_folds.the_lemmas, ty_views.the_lemmas)
 
-pub ruleset opened_all = (opened, stmt_folds.the_lemmas, stmt_views.the_lemmas)
+pub ruleset opened_all = (opened, stmt_folds.the_lemmas, stmt_views.the_lemmas, stmt_views.outs-Do', stmt_views.outs-If')
 
 -- a test takes the first and refuses the second
 abbrev pub Parts : Bool → Bool → Type 0
@@ -33,6 +33,9 @@ at ty k = record { ty = ty; span = record { start = 0; end = 0 }; kind = k }
 
 abbrev pub does : StmtKind → Stmt
 does k = record { span = record { start = 0; end = 0 }; kind = k }
+
+abbrev pub block : List Stmt → Stmt
+block all = does (Block all)
 
 abbrev pub value : Ty → Local
 value ty = record { name = record { start = 0; end = 0 }; ty = ty; addressed = false }
@@ -64,4 +67,4 @@ function params locals ret body = record { name = record { start = 0; end = 0 };
 
 -- a function of one number
 abbrev pub one : Func
-one = function 1 (value Int ∷ []) Int (does (Return (Some (variable 0))))
+one = function 1 (value Int ∷ []) Int (block (does (Return (Some (variable 0))) ∷ []))

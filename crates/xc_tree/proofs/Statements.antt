@@ -1,31 +1,29 @@
 -- Statements that the invariant refuses, each beside one that it takes.
-use Rattle.std.proofs.Common.{rules, ℕ, List, [], ◌∷◌, Bool, false}
+use Rattle.std.proofs.Common.{rules, ℕ, List, [], ◌∷◌, Bool}
 use Rattle.std.specs.Prelude.{Some, None, codes}
 use Rattle.xc_word.specs.declared.memory.Kind.TheVariants.{ReadXx}
-use Rattle.xc_tree.specs.declared.ty.Ty.{Ty, Void, Int, Ptr, Array, Future}
+use Rattle.xc_tree.specs.declared.ty.Ty.{Ty, Void, Int, Uint, Ptr, Array, Future}
 use Rattle.xc_tree.specs.declared.expr.Expr.{Expr}
 use Rattle.xc_tree.specs.declared.expr.ExprKind.{Const, Local as Variable, Set, Global, Read, Print}
 use Rattle.xc_tree.specs.declared.pragmas.Root.TheVariants as root
 use Rattle.xc_tree.specs.declared.stmt.Stmt.{Stmt}
 use Rattle.xc_tree.specs.declared.stmt.Capture.{Capture}
-use Rattle.xc_tree.specs.declared.stmt.StmtKind.{Empty, Declare, Eval, Block, If, Loop, Return, Break, Continue}
+use Rattle.xc_tree.specs.declared.stmt.StmtKind.{Empty, Declare, Eval, If, Loop, Switch, Return, Break, Continue}
 use Rattle.xc_tree.specs.declared.stmt.StmtKind as stmt
+use Rattle.xc_tree.specs.declared.stmt.Item.{Item, At, Other, Do}
 use Rattle.xc_tree.specs.declared.stmt.LoopForm.TheVariants.{While, For}
-use Rattle.xc_tree.specs.Lists.{ascending}
+use Rattle.xc_tree.specs.Lists.{distinct, ascending}
 use Rattle.xc_tree.specs.Types.{shapes_within, is_mixed}
 use Rattle.xc_tree.specs.Formats.{taken_from}
 use Rattle.xc_tree.specs.Typed.{context, rule, are_values}
-use Rattle.xc_tree.specs.Statements.{stmt_ok, leaves_ok, sees_ok, pragmas_ok}
-use Rattle.xc_tree.proofs.Samples.{opened_all, Parts, at, does, value, object, global, number, variable, naming, pragmas, repeats}
+use Rattle.xc_tree.specs.Statements.{stmt_ok, at_entry, leaves_ok, sees_ok, pragmas_ok}
+use Rattle.xc_tree.proofs.Samples.{opened_all, Parts, at, does, block, value, object, global, number, variable, naming, pragmas, repeats}
 
 abbrev evaluates : Expr → Stmt
 evaluates e = does (Eval e)
 
 abbrev declares : ℕ → Stmt
 declares k = does (Declare k [])
-
-abbrev block : List Stmt → Stmt
-block all = does (Block all)
 
 -- `for (init; ;) body`
 abbrev for_ : List Stmt → Stmt → Stmt
@@ -36,7 +34,11 @@ copies from = record { from = from; local = 1 } ∷ []
 
 -- `future place(..) body`, with the place of global 1 and local 0 copied into local 1
 abbrev starts : Ty → Stmt → Stmt
-starts ty body = does (stmt.Future (at (Ptr ty) (Global 1)) (copies (variable 0)) body)
+starts ty body = does (stmt.Future (at (Ptr ty) (Global 1)) (copies (variable 0)) (block (body ∷ [])))
+
+-- `switch (local 0)`
+abbrev chooses : List Item → Stmt
+chooses items = does (Switch (variable 0) items)
 
 -- local 0 is a number, local 1 another one, local 2 a pointer, local 3 an array
 abbrev typed : Stmt → Bool
@@ -44,7 +46,7 @@ typed s = stmt_ok (context [] (global Int [] ∷ global (Future Int) [] ∷ []) 
 
 -- in a function of type Int
 abbrev leaving : Stmt → Bool
-leaving s = leaves_ok s (record { ret = Int; looping = false })
+leaving s = leaves_ok s (at_entry Int)
 
 -- where local 0 is seen
 abbrev seen : Stmt → Bool
@@ -79,6 +81,30 @@ declared_local : Parts (typed (declares 3))
     (typed (declares 4))
 unfolding rule are_values shapes_within is_mixed taken_from pragmas_ok ascending
 declared_local = search (rules, opened_all)
+
+-- the value that a `switch` goes by
+chosen_number : Parts (typed (does (Switch (at Uint (Const 1)) (At 1 ∷ Do (does Empty) ∷ []))))
+    (typed (does (Switch (at (Ptr Int) (Variable 2)) (At 1 ∷ Do (does Empty) ∷ []))))
+unfolding rule are_values shapes_within is_mixed taken_from pragmas_ok ascending distinct
+chosen_number = search (rules, opened_all)
+
+-- the words of two `case`
+different_cases : Parts (typed (chooses (At 1 ∷ At 2 ∷ Do (does Empty) ∷ [])))
+    (typed (chooses (At 1 ∷ Do (does Empty) ∷ At 1 ∷ [])))
+unfolding rule are_values shapes_within is_mixed taken_from pragmas_ok ascending distinct
+different_cases = search (rules, opened_all)
+
+-- one `default`
+one_default : Parts (typed (chooses (At 1 ∷ Other ∷ Do (does Empty) ∷ [])))
+    (typed (chooses (Other ∷ Do (does Empty) ∷ Other ∷ [])))
+unfolding rule are_values shapes_within is_mixed taken_from pragmas_ok ascending distinct
+one_default = search (rules, opened_all)
+
+-- the statements of a `switch`
+chosen_statement : Parts (typed (chooses (Do (evaluates (number 1)) ∷ [])))
+    (typed (chooses (Do (evaluates (variable 9)) ∷ [])))
+unfolding rule are_values shapes_within is_mixed taken_from pragmas_ok ascending distinct
+chosen_statement = search (rules, opened_all)
 
 -- the streams that are asked for, at least 1
 least_streams : Parts (typed (repeats 0 (pragmas 1) (does Break)))
@@ -146,6 +172,42 @@ continue_in_loop : Parts (leaving (repeats 0 (pragmas 8) (block (does Continue �
 unfolding rule
 continue_in_loop = search (rules, opened_all)
 
+-- a `break` leaves a `switch`
+break_in_switch : Parts (leaving (chooses (Do (does Break) ∷ [])))
+    (leaving (block (chooses (Do (does Break) ∷ []) ∷ does Break ∷ [])))
+unfolding rule
+break_in_switch = search (rules, opened_all)
+
+-- a `continue` leaves none
+continue_in_switch : Parts (leaving (repeats 0 (pragmas 8) (chooses (Do (does Continue) ∷ []))))
+    (leaving (chooses (Do (does Continue) ∷ [])))
+unfolding rule
+continue_in_switch = search (rules, opened_all)
+
+-- what stands in a `switch` is no declaration
+chosen_is_no_declaration : Parts (leaving (chooses (At 1 ∷ Do (block (declares 1 ∷ [])) ∷ [])))
+    (leaving (chooses (At 1 ∷ Do (declares 1) ∷ [])))
+unfolding rule
+chosen_is_no_declaration = search (rules, opened_all)
+
+-- nor is a branch
+branch_is_no_declaration : Parts (leaving (does (If (number 1) (block (declares 1 ∷ [])) None)))
+    (leaving (does (If (number 1) (declares 1) None)))
+unfolding rule
+branch_is_no_declaration = search (rules, opened_all)
+
+-- nor is what stands behind `else`
+else_is_no_declaration : Parts (leaving (does (If (number 1) (does Empty) (Some (block (declares 1 ∷ []))))))
+    (leaving (does (If (number 1) (does Empty) (Some (declares 1)))))
+unfolding rule
+else_is_no_declaration = search (rules, opened_all)
+
+-- nor is what a loop repeats
+repeated_is_no_declaration : Parts (leaving (repeats 0 (pragmas 8) (block (declares 1 ∷ []))))
+    (leaving (repeats 0 (pragmas 8) (declares 1)))
+unfolding rule
+repeated_is_no_declaration = search (rules, opened_all)
+
 -- the value of a `return`
 returned_type : Parts (leaving (does (Return (Some (number 1)))))
     (leaving (does (Return (Some (at (Ptr Int) (Const 0))))))
@@ -206,6 +268,12 @@ future_leaves_no_loop : Parts (leaving (repeats 0 (pragmas 8) (starts (Future In
 unfolding rule
 future_leaves_no_loop = search (rules, opened_all)
 
+-- the body of a `future` statement is a block
+future_body_is_block : Parts (leaving (starts (Future Int) (does Empty)))
+    (leaving (does (stmt.Future (at (Ptr (Future Int)) (Global 1)) (copies (variable 0)) (does Empty))))
+unfolding rule
+future_body_is_block = search (rules, opened_all)
+
 -- a local is declared before its use
 declared_before : Parts (seen (block (declares 1 ∷ evaluates (variable 1) ∷ [])))
     (seen (block (evaluates (variable 1) ∷ declares 1 ∷ [])))
@@ -223,6 +291,12 @@ seen_in_loop : Parts (seen (for_ (declares 1 ∷ []) (evaluates (variable 1))))
     (seen (block (for_ (declares 1 ∷ []) (does Empty) ∷ evaluates (variable 1) ∷ [])))
 unfolding rule
 seen_in_loop = search (rules, opened_all)
+
+-- a local that is declared in a `switch` is seen in its block alone
+seen_in_switch : Parts (seen (chooses (Do (block (declares 1 ∷ evaluates (variable 1) ∷ [])) ∷ [])))
+    (seen (chooses (Do (block (declares 1 ∷ [])) ∷ Do (evaluates (variable 1)) ∷ [])))
+unfolding rule
+seen_in_switch = search (rules, opened_all)
 
 -- an initialiser sees its own local and no later one
 seen_in_initialiser : Parts (seen (does (Declare 1 ((0, variable 1) ∷ []))))

@@ -9,7 +9,7 @@ use Rattle.xc_tree.specs.Types.{Shape, struct_shapes, structs_ok, is_object, siz
 use Rattle.xc_tree.specs.Formats.{integers_taken}
 use Rattle.xc_tree.specs.Walk.{loop_ids, declared}
 use Rattle.xc_tree.specs.Typed.{Context, context}
-use Rattle.xc_tree.specs.Statements.{stmt_ok, leaves_ok, sees_ok, Inside}
+use Rattle.xc_tree.specs.Statements.{stmt_ok, leaving, body_ok, sees_ok}
 
 -- functions --------------------------------------------------------------
 
@@ -24,13 +24,10 @@ param_ok l = is_some (base l.ty)
 abbrev pub ret_ok : Context → Ty → Bool
 ret_ok cx ty = is_void ty || (is_plain ty && is_object cx.shapes ty)
 
-abbrev pub at_entry : Ty → Inside
-at_entry ret = record { ret = ret; looping = false }
-
 -- each local is declared once, before it is named
 abbrev pub func_tests : Context → Func → List Bool
 func_tests cx f = stmt_ok cx f.body
-    ∷ leaves_ok f.body (at_entry f.ret)
+    ∷ body_ok (leaving f.body) f.ret
     ∷ sees_ok f.body (indices f.params)
     ∷ distinct (indices f.params ++ declared f.body)
     ∷ every (map (local_ok cx) f.locals)

@@ -4,8 +4,8 @@ use Rattle.xc_tree.specs.declared.expr.Expr.{Expr}
 use Rattle.xc_tree.specs.declared.expr.ExprKind.TheOpen.{ExprKind-F}
 use Rattle.xc_tree.specs.declared.expr.ExprKind.TheFolds.{fold-Expr}
 use Rattle.xc_tree.specs.declared.stmt.Stmt.{Stmt}
-use Rattle.xc_tree.specs.declared.stmt.StmtKind.TheOpen.{StmtKind-F}
-use Rattle.xc_tree.specs.declared.stmt.StmtKind.TheFolds.{fold-Stmt}
+use Rattle.xc_tree.specs.declared.stmt.Item.TheOpen.{StmtKind-F, Item-F}
+use Rattle.xc_tree.specs.declared.stmt.Item.TheFolds.{fold-Stmt}
 use Rattle.xc_tree.specs.Lists.{joined}
 
 -- what the parts of a form have, one after the other
@@ -45,25 +45,32 @@ abbrev pub if_there : {A : Type 0} → Option (List A) → List A
 if_there None = []
 if_there (Some xs) = xs
 
+-- what is told of the statement that an item of a `switch` is; a label has `none`
+abbrev pub of_item : {A B : Type 0} → B → Item-F B A B → B
+of_item none (Item-F.Do s) = s
+of_item none _ = none
+
 -- the ids of the loops of a statement, outer ones first
-abbrev pub ids_step : StmtKind-F (List ℕ) (List ℕ) → List ℕ
+abbrev pub ids_step : StmtKind-F (List ℕ) (List ℕ) (List ℕ) → List ℕ
 ids_step (StmtKind-F.Block all) = joined all
 ids_step (StmtKind-F.If test then other) = then ++ if_there other
 ids_step (StmtKind-F.Loop id _ init test step body pragmas) = id ∷ (joined init ++ body)
+ids_step (StmtKind-F.Switch value items) = joined items
 ids_step (StmtKind-F.Future place captures body) = body
 ids_step _ = []
 
 abbrev pub loop_ids : Stmt → List ℕ
-loop_ids = fold-Stmt (List ℕ) (List ℕ) ids_step (λ s. s.kind)
+loop_ids = fold-Stmt (List ℕ) (List ℕ) (List ℕ) (of_item []) ids_step (λ s. s.kind)
 
 -- the locals that a statement declares, the copies of a `future` statement among them
-abbrev pub declared_step : StmtKind-F (List ℕ) (List ℕ) → List ℕ
+abbrev pub declared_step : StmtKind-F (List ℕ) (List ℕ) (List ℕ) → List ℕ
 declared_step (StmtKind-F.Declare x init) = x ∷ []
 declared_step (StmtKind-F.Block all) = joined all
 declared_step (StmtKind-F.If test then other) = then ++ if_there other
 declared_step (StmtKind-F.Loop id _ init test step body pragmas) = joined init ++ body
+declared_step (StmtKind-F.Switch value items) = joined items
 declared_step (StmtKind-F.Future place captures body) = map (λ c. c.local) captures ++ body
 declared_step _ = []
 
 abbrev pub declared : Stmt → List ℕ
-declared = fold-Stmt (List ℕ) (List ℕ) declared_step (λ s. s.kind)
+declared = fold-Stmt (List ℕ) (List ℕ) (List ℕ) (of_item []) declared_step (λ s. s.kind)

@@ -13,7 +13,7 @@ pub use copy::{copy_expr, copy_pragmas, copy_stmt, copy_ty};
 pub use expr::{Expr, ExprKind};
 pub use operator::{BinOp, UnOp};
 pub use pragmas::{Marks, Pragmas, Root, Schedule};
-pub use stmt::{Capture, LoopForm, LoopId, NotNormal, Stmt, StmtKind};
+pub use stmt::{Capture, Item, LoopForm, LoopId, NotNormal, Stmt, StmtKind};
 pub use tree::{Func, Local, Object, Tree};
 pub use ty::Ty;
 pub use xc_text_place::{Pos, Span};

@@ -86,6 +86,11 @@ pub enum StmtKind {
         body: Boxed<Stmt>,
         pragmas: Pragmas,
     },
+    /// `switch`. The statements behind the label that fits are run, else those behind `default`, else none.
+    Switch {
+        value: Expr,
+        items: Items<Item>,
+    },
     /// `return`: of a function, or of the body of a `future` statement.
     Return(Option<Expr>),
     /// `break`
@@ -98,4 +103,16 @@ pub enum StmtKind {
         captures: Items<Capture>,
         body: Boxed<Stmt>,
     },
+}
+
+/// What stands in the braces of a `switch`.
+#[cycle(stmt)]
+#[derive(Drop)]
+pub enum Item {
+    /// `case`, with a word of the type of the value.
+    At(u64),
+    /// `default`
+    Other,
+    /// A statement. It is no declaration.
+    Do(Stmt),
 }

@@ -2,10 +2,11 @@ ghost use Rattle.std.specs.Prelude.{◌≡◌, IsTrue, IfOk};
 ghost use Rattle.xc_form.specs.Normal.{is_loop, normal_form as normal_form_of};
 ghost use Rattle.xc_form.specs.Concurrency.{is_concurrent as is_concurrent_by};
 ghost use Rattle.xc_form.specs.Purity.{purity};
+ghost use Rattle.xc_form.specs.Effects.{stmt_effects};
 
 use sqlite_items::Items;
 use std::alloc::{AllocError, Global};
-use xc_form::{Header, is_concurrent, normal_form, pure_functions};
+use xc_form::{Effect, Header, effects_of, is_concurrent, normal_form, pure_functions};
 use xc_tree::{Func, Local, NotNormal, Stmt};
 
 pub fn normal(
@@ -36,4 +37,10 @@ pub fn pures(alloc: Global, funcs: &[Func]) -> Result<Items<bool>, AllocError>
     ensures { IfOk result (λ r. r ≡ purity funcs.now) }
 {
     pure_functions(alloc, funcs)
+}
+
+pub fn effects(alloc: Global, s: &Stmt) -> Result<Items<Effect>, AllocError>
+    ensures { IfOk result (λ r. r ≡ stmt_effects s.now) }
+{
+    effects_of(alloc, s)
 }

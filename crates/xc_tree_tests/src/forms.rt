@@ -6,7 +6,7 @@ use xc_form::{
 };
 use xc_tree::{BinOp, Local, NotNormal, Stmt, StmtKind, Tree};
 
-const fn header(order: BinOp, down: bool, size: u64) -> Result<Header, NotNormal> {
+pub const fn header(order: BinOp, down: bool, size: u64) -> Result<Header, NotNormal> {
     let step = Step { down, size };
     Ok(Header {
         index: 0,
@@ -146,6 +146,10 @@ fn concurrent_loops(rt: HostRuntime) -> Result<(), Fail> {
         ),
         (
             "int k, *p = &k; \n#pragma mta assert parallel\nfor (int i = 0; i < 9; i++) *p = i;",
+            true,
+        ),
+        (
+            "future int f[9]; \n#pragma mta assert parallel\nfor (int i = 0; i < 9; i++) { int k = i; future f[i](k) { k++; return k; } }",
             true,
         ),
     ];

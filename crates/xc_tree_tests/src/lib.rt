@@ -8,4 +8,6 @@ mod forms;
 #[cfg(test)]
 mod lines;
 #[cfg(test)]
+mod switches;
+#[cfg(test)]
 mod texts;

@@ -1,8 +1,9 @@
 -- A statement that is well typed with all locals as objects stays so where those whose address is never taken are values.
-use Rattle.std.proofs.Common.{◌≡◌, ℕ, List, [], ◌∷◌, length, map, Bool, true, false, refl, sym, ap, ◌∙◌, subst}
-use Rattle.std.specs.Prelude.{IsTrue, ◌&&◌, nat_le, nat_lt, Option, Some, None, option_map, slice_get}
+use Rattle.std.proofs.Common.{◌≡◌, ℕ, ◌+◌, List, [], ◌∷◌, ◌++◌, length, map, Bool, true, false, refl, sym, ap, ◌∙◌, subst}
+use Rattle.std.specs.Prelude.{IsTrue, ◌&&◌, nat_le, nat_lt, sum_by, Option, Some, None, option_map, slice_get}
 use Rattle.std.proofs.lemmas.Option.{slice_get-map}
 use Rattle.std.proofs.lemmas.List.{length-map}
+use Rattle.std.proofs.lemmas.List.Sums.{sum_by-cons}
 use Rattle.xc_word.specs.declared.memory.Kind.{Kind}
 use Rattle.xc_word.specs.declared.memory.Kind.TheVariants as kind
 use Rattle.xc_tree.specs.declared.ty.Ty.{Ty}
@@ -17,16 +18,18 @@ use Rattle.xc_tree.specs.declared.pragmas.Root.TheVariants as root
 use Rattle.xc_tree.specs.declared.stmt.Stmt.{Stmt, roll-Stmt}
 use Rattle.xc_tree.specs.declared.stmt.Capture.{Capture}
 use Rattle.xc_tree.specs.declared.stmt.StmtKind.{StmtKind, roll-StmtKind}
-use Rattle.xc_tree.specs.declared.stmt.StmtKind.TheOpen.{StmtKind-F}
-use Rattle.xc_tree.specs.declared.stmt.StmtKind.TheFolds.{fold-Stmt, fold-StmtKind, fold-roll-StmtKind, fold-roll-Stmt, ind-Stmt, map-StmtKind}
+use Rattle.xc_tree.specs.declared.stmt.Item.{Item, roll-Item}
+use Rattle.xc_tree.specs.declared.stmt.Item.TheOpen.{StmtKind-F, Item-F}
+use Rattle.xc_tree.specs.declared.stmt.Item.TheFolds.{fold-Stmt, fold-StmtKind, fold-Item, fold-roll-StmtKind, fold-roll-Stmt, fold-roll-Item, ind-Stmt, map-StmtKind, map-Item}
 use Rattle.xc_tree.specs.declared.tree.Local.{Local}
-use Rattle.xc_tree.specs.Lists.{every, allows, passes, ascending}
-use Rattle.xc_tree.specs.Types.{same_ty, is_plain, may_hold, cell_of, holds_pointer, pointee}
+use Rattle.xc_tree.specs.Lists.{every, joined, distinct, allows, passes, ascending}
+use Rattle.xc_tree.specs.Types.{same_ty, is_number, is_plain, may_hold, cell_of, holds_pointer, pointee}
 use Rattle.xc_tree.specs.Typed.{Context, expr_ok, value_ok}
-use Rattle.xc_tree.specs.Statements.{test_ok, init_ok, inits_ok, object_named, variable_named, capture_ok, root_ok, is_pointer_root, pragmas_ok, stmt_step, stmt_ok}
+use Rattle.xc_tree.specs.Walk.{of_item}
+use Rattle.xc_tree.specs.Statements.{test_ok, init_ok, inits_ok, object_named, variable_named, capture_ok, root_ok, is_pointer_root, pragmas_ok, Labelled, label_step, labels_ok, choice_ok, stmt_step, stmt_ok}
 use Rattle.xc_tree.proofs.Lists.{and_left, and_right, and_both}
 use Rattle.xc_type_lowering.specs.Lowered.{Lowered, LoweredKind, with_kind, lower_step, lowering, lowered, read_of, init_with, capture_with, with_exprs, lower_stmt_step, lowered_stmt}
-use Rattle.xc_type_lowering.specs.InnerLowered.{lowering_kind, lowered_stmt_kind}
+use Rattle.xc_type_lowering.specs.InnerLowered.{lowering_kind, lowered_stmt_kind, lowered_item}
 use Rattle.xc_type_lowering.specs.Accessed.{only_accessed, accessed_step, stmt_accessed}
 use Rattle.xc_type_lowering.specs.Kept.{with_address, with_addresses, addressed_in, values_plain, StmtKept}
 use Rattle.xc_type_lowering.proofs.Names.{type_kept}
@@ -92,6 +95,10 @@ module _ (cx : Context) (plain : IsTrue (values_plain cx)) where
   tests_kept : (o : Option Expr) → IsTrue (allows (only_accessed flags) o) → IsTrue (allows (test_ok all) o) → IsTrue (allows (test_ok cx) (option_map f o))
   tests_kept None u h = refl
   tests_kept (Some e) u h = test_kept e u h
+
+  choice_kept : (e : Expr) → IsTrue (only_accessed flags e) → IsTrue (choice_ok all e) → IsTrue (choice_ok cx (f e))
+  choice_kept e u h = and_both (value_ok cx (f e)) _ (value_kept cx plain e u (and_left _ _ h))
+      (subst (λ t. IsTrue (is_number t)) (sym (type_kept flags e)) (and_right (value_ok all e) _ h))
 
   values_kept : (o : Option Expr) → IsTrue (allows (only_accessed flags) o) → IsTrue (allows (value_ok all) o) → IsTrue (allows (value_ok cx) (option_map f o))
   values_kept None u h = refl
@@ -175,10 +182,25 @@ module _ (cx : Context) (plain : IsTrue (values_plain cx)) where
   -- ---- statements
 
   abbrev ok_in : Context → StmtKind → Bool
-  ok_in c = fold-StmtKind Bool Bool (stmt_step c) (λ s. s.kind)
+  ok_in c = fold-StmtKind Labelled Bool Bool label_step (stmt_step c) (λ s. s.kind)
+
+  abbrev item_in : Context → Item → Labelled
+  item_in c = fold-Item Labelled Bool Bool label_step (stmt_step c) (λ s. s.kind)
 
   abbrev accessed_in : StmtKind → Bool
-  accessed_in = fold-StmtKind Bool Bool (accessed_step flags) (λ s. s.kind)
+  accessed_in = fold-StmtKind Bool Bool Bool (of_item true) (accessed_step flags) (λ s. s.kind)
+
+  abbrev accessed_item : Item → Bool
+  accessed_item = fold-Item Bool Bool Bool (of_item true) (accessed_step flags) (λ s. s.kind)
+
+  -- the same labels, and a statement that stays well typed
+  record Relabelled (used : Bool) (old new : Labelled) : Type 0 where
+    pub cases : new.cases ≡ old.cases
+    pub defaults : new.defaults ≡ old.defaults
+    pub ok : IsTrue used → IsTrue old.ok → IsTrue new.ok
+
+  abbrev KeptItem : Item → Type 0
+  KeptItem i = Relabelled (accessed_item i) (item_in all i) (item_in cx (lowered_item flags i))
 
   abbrev KeptKind : StmtKind → Type 0
   KeptKind k = IsTrue (accessed_in k) → IsTrue (ok_in all k) → IsTrue (ok_in cx (lowered_stmt_kind flags k))
@@ -192,17 +214,32 @@ module _ (cx : Context) (plain : IsTrue (values_plain cx)) where
   abbrev KindChild : Type 0
   KindChild = (k : StmtKind) × KeptKind k
 
-  abbrev layer : StmtKind-F KindChild Child → StmtKind-F StmtKind Stmt
-  layer y = map-StmtKind KindChild Child StmtKind Stmt (λ k. k.0) (λ s. s.0) y
+  abbrev ItemChild : Type 0
+  ItemChild = (i : Item) × KeptItem i
 
-  abbrev ok_layer : Context → StmtKind-F StmtKind Stmt → StmtKind-F Bool Bool
-  ok_layer c l = map-StmtKind StmtKind Stmt Bool Bool (ok_in c) (stmt_ok c) l
+  abbrev layer : StmtKind-F ItemChild KindChild Child → StmtKind-F Item StmtKind Stmt
+  layer y = map-StmtKind ItemChild KindChild Child Item StmtKind Stmt (λ i. i.0) (λ k. k.0) (λ s. s.0) y
 
-  abbrev accessed_layer : StmtKind-F StmtKind Stmt → StmtKind-F Bool Bool
-  accessed_layer l = map-StmtKind StmtKind Stmt Bool Bool accessed_in (stmt_accessed flags) l
+  abbrev ok_layer : Context → StmtKind-F Item StmtKind Stmt → StmtKind-F Labelled Bool Bool
+  ok_layer c l = map-StmtKind Item StmtKind Stmt Labelled Bool Bool (item_in c) (ok_in c) (stmt_ok c) l
 
-  abbrev lowered_stmts : StmtKind-F StmtKind Stmt → StmtKind-F StmtKind Stmt
-  lowered_stmts l = map-StmtKind StmtKind Stmt StmtKind Stmt (lowered_stmt_kind flags) (lowered_stmt flags) l
+  abbrev accessed_layer : StmtKind-F Item StmtKind Stmt → StmtKind-F Bool Bool Bool
+  accessed_layer l = map-StmtKind Item StmtKind Stmt Bool Bool Bool accessed_item accessed_in (stmt_accessed flags) l
+
+  abbrev lowered_stmts : StmtKind-F Item StmtKind Stmt → StmtKind-F Item StmtKind Stmt
+  lowered_stmts l = map-StmtKind Item StmtKind Stmt Item StmtKind Stmt (lowered_item flags) (lowered_stmt_kind flags) (lowered_stmt flags) l
+
+  abbrev item_layer : Item-F ItemChild KindChild Child → Item-F Item StmtKind Stmt
+  item_layer y = map-Item ItemChild KindChild Child Item StmtKind Stmt (λ i. i.0) (λ k. k.0) (λ s. s.0) y
+
+  abbrev ok_item_layer : Context → Item-F Item StmtKind Stmt → Item-F Labelled Bool Bool
+  ok_item_layer c l = map-Item Item StmtKind Stmt Labelled Bool Bool (item_in c) (ok_in c) (stmt_ok c) l
+
+  abbrev accessed_item_layer : Item-F Item StmtKind Stmt → Item-F Bool Bool Bool
+  accessed_item_layer l = map-Item Item StmtKind Stmt Bool Bool Bool accessed_item accessed_in (stmt_accessed flags) l
+
+  abbrev lowered_items : Item-F Item StmtKind Stmt → Item-F Item StmtKind Stmt
+  lowered_items l = map-Item Item StmtKind Stmt Item StmtKind Stmt (lowered_item flags) (lowered_stmt_kind flags) (lowered_stmt flags) l
 
   abbrev new : Child → Bool
   new s = stmt_ok cx (lowered_stmt flags s.0)
@@ -218,7 +255,54 @@ module _ (cx : Context) (plain : IsTrue (values_plain cx)) where
   rows [] u h = refl
   rows (s ∷ ss) u h = and_both (new s) _ (s.1 (and_left _ _ u) (and_left _ _ h)) (rows ss (and_right (use_ok s) _ u) (and_right (old s) _ h))
 
-  level : (y : StmtKind-F KindChild Child) → IsTrue (accessed_step flags (accessed_layer (layer y))) → IsTrue (stmt_step all (ok_layer all (layer y)))
+  -- ---- the items of a `switch`
+
+  abbrev news : List ItemChild → List Labelled
+  news is = map (item_in cx) (map (lowered_item flags) (map (λ i. i.0) is))
+
+  abbrev olds : List ItemChild → List Labelled
+  olds is = map (item_in all) (map (λ i. i.0) is)
+
+  cases_same : (is : List ItemChild) → joined (map (λ (i : Labelled). i.cases) (news is)) ≡ joined (map (λ (i : Labelled). i.cases) (olds is))
+  cases_same [] = refl
+  cases_same (i ∷ is) = ap (λ ns. ns ++ joined (map (λ (i : Labelled). i.cases) (news is))) i.1.cases ∙ ap (λ ns. (item_in all i.0).cases ++ ns) (cases_same is)
+
+  defaults_same : (is : List ItemChild) → sum_by (λ (i : Labelled). i.defaults) (news is) ≡ sum_by (λ (i : Labelled). i.defaults) (olds is)
+  defaults_same [] = refl
+  defaults_same (i ∷ is) =
+      let count : Labelled → ℕ = λ i. i.defaults in
+      let this = item_in cx (lowered_item flags i.0) in
+      sum_by-cons count this (news is) ∙ (ap (λ n. n + sum_by count (news is)) i.1.defaults ∙ (ap (λ n. (item_in all i.0).defaults + n) (defaults_same is)
+      ∙ sym (sum_by-cons count (item_in all i.0) (olds is))))
+
+  labels_kept : (is : List ItemChild) → IsTrue (labels_ok (olds is)) → IsTrue (labels_ok (news is))
+  labels_kept is h = subst (λ ns. IsTrue (distinct ns && nat_le (sum_by (λ (i : Labelled). i.defaults) (news is)) 1)) (sym (cases_same is))
+      (subst (λ n. IsTrue (distinct (joined (map (λ (i : Labelled). i.cases) (olds is))) && nat_le n 1)) (sym (defaults_same is)) h)
+
+  items_kept : (is : List ItemChild) → IsTrue (every (map accessed_item (map (λ i. i.0) is))) → IsTrue (every (map (λ (i : Labelled). i.ok) (olds is))) → IsTrue (every (map (λ (i : Labelled). i.ok) (news is)))
+  items_kept [] u h = refl
+  items_kept (i ∷ is) u h = and_both (item_in cx (lowered_item flags i.0)).ok _ (i.1.ok (and_left _ _ u) (and_left _ _ h))
+      (items_kept is (and_right (accessed_item i.0) _ u) (and_right (item_in all i.0).ok _ h))
+
+  item_level : (y : Item-F ItemChild KindChild Child)
+      → Relabelled (of_item true (accessed_item_layer (item_layer y))) (label_step (ok_item_layer all (item_layer y))) (label_step (ok_item_layer cx (lowered_items (item_layer y))))
+  item_level (Item-F.At n) = record { cases = refl; defaults = refl; ok = λ u h. refl }
+  item_level Item-F.Other = record { cases = refl; defaults = refl; ok = λ u h. refl }
+  item_level (Item-F.Do s) = record { cases = refl; defaults = refl; ok = s.1 }
+
+  item_kept : (y : Item-F ItemChild KindChild Child) → KeptItem (roll-Item (item_layer y))
+  item_kept y =
+      let i = roll-Item (item_layer y) in
+      let new_is : item_in cx (lowered_item flags i) ≡ label_step (ok_item_layer cx (lowered_items (item_layer y))) =
+      ap (item_in cx) (fold-roll-Item Item StmtKind Stmt roll-Item (lower_stmt_step flags) roll-Stmt (item_layer y))
+      ∙ fold-roll-Item Labelled Bool Bool label_step (stmt_step cx) (λ s. s.kind) (lowered_items (item_layer y)) in
+      let old_is : item_in all i ≡ label_step (ok_item_layer all (item_layer y)) = fold-roll-Item Labelled Bool Bool label_step (stmt_step all) (λ s. s.kind) (item_layer y) in
+      let use_is : accessed_item i ≡ of_item true (accessed_item_layer (item_layer y)) = fold-roll-Item Bool Bool Bool (of_item true) (accessed_step flags) (λ s. s.kind) (item_layer y) in
+      subst (λ u. Relabelled u (item_in all i) (item_in cx (lowered_item flags i))) (sym use_is)
+      (subst (λ o. Relabelled (of_item true (accessed_item_layer (item_layer y))) o (item_in cx (lowered_item flags i))) (sym old_is)
+      (subst (λ n. Relabelled (of_item true (accessed_item_layer (item_layer y))) (label_step (ok_item_layer all (item_layer y))) n) (sym new_is) (item_level y)))
+
+  level : (y : StmtKind-F ItemChild KindChild Child) → IsTrue (accessed_step flags (accessed_layer (layer y))) → IsTrue (stmt_step all (ok_layer all (layer y)))
       → IsTrue (stmt_step cx (ok_layer cx (with_exprs f (lowered_stmts (layer y)))))
   level StmtKind-F.Empty u h = refl
   level (StmtKind-F.Declare x init) u h = declare_kept x init u h
@@ -243,6 +327,11 @@ module _ (cx : Context) (plain : IsTrue (values_plain cx)) where
       (and_both (allows (test_ok cx) (option_map f test)) _ (tests_kept test (and_left _ _ u1) (and_left _ _ h1))
       (and_both (allows (value_ok cx) (option_map f step)) _ (values_kept step (and_left _ _ u2) (and_left _ _ h2))
       (and_both (new body) _ (body.1 (and_right (allows (only_accessed flags) step) _ u2) (and_left _ _ h3)) (pragmas_kept pragmas (and_right (old body) _ h3)))))
+  level (StmtKind-F.Switch value items) u h =
+      let hs = and_right (choice_ok all value) _ h in
+      and_both (choice_ok cx (f value)) _ (choice_kept value (and_left _ _ u) (and_left _ _ h))
+      (and_both (labels_ok (news items)) _ (labels_kept items (and_left _ _ hs))
+      (items_kept items (and_right (only_accessed flags value) _ u) (and_right (labels_ok (olds items)) _ hs)))
   level (StmtKind-F.Return e) u h = values_kept e u h
   level StmtKind-F.Break u h = refl
   level StmtKind-F.Continue u h = refl
@@ -254,19 +343,20 @@ module _ (cx : Context) (plain : IsTrue (values_plain cx)) where
       (body.1 (and_right (every (map (λ c. only_accessed flags c.from) captures)) _ us) (and_right (every (map (capture_ok all) captures)) _ hs)))
 
   stmt_kept : (s : Stmt) → Kept s
-  stmt_kept = ind-Stmt KeptKind Kept
+  stmt_kept = ind-Stmt KeptItem KeptKind Kept
+      (λ x y is. subst (λ z. KeptItem (roll-Item z)) is (item_kept y))
       (λ x y is. subst (λ z. KeptKind (roll-StmtKind z)) is (λ u h.
-      let new_is = ap (ok_in cx) (fold-roll-StmtKind StmtKind Stmt (lower_stmt_step flags) roll-Stmt (layer y))
-      ∙ fold-roll-StmtKind Bool Bool (stmt_step cx) (λ s. s.kind) (with_exprs f (lowered_stmts (layer y))) in
+      let new_is = ap (ok_in cx) (fold-roll-StmtKind Item StmtKind Stmt roll-Item (lower_stmt_step flags) roll-Stmt (layer y))
+      ∙ fold-roll-StmtKind Labelled Bool Bool label_step (stmt_step cx) (λ s. s.kind) (with_exprs f (lowered_stmts (layer y))) in
       subst IsTrue (sym new_is) (level y
-      (subst IsTrue (fold-roll-StmtKind Bool Bool (accessed_step flags) (λ s. s.kind) (layer y)) u)
-      (subst IsTrue (fold-roll-StmtKind Bool Bool (stmt_step all) (λ s. s.kind) (layer y)) h))))
+      (subst IsTrue (fold-roll-StmtKind Bool Bool Bool (of_item true) (accessed_step flags) (λ s. s.kind) (layer y)) u)
+      (subst IsTrue (fold-roll-StmtKind Labelled Bool Bool label_step (stmt_step all) (λ s. s.kind) (layer y)) h))))
       (λ x y is. subst (λ z. Kept (roll-Stmt z)) is (λ u h.
-      let new_is = ap (stmt_ok cx) (fold-roll-Stmt StmtKind Stmt (lower_stmt_step flags) roll-Stmt (record { span = y.span; kind = y.kind.0 }))
-      ∙ fold-roll-Stmt Bool Bool (stmt_step cx) (λ s. s.kind) (record { span = y.span; kind = lowered_stmt_kind flags y.kind.0 }) in
+      let new_is = ap (stmt_ok cx) (fold-roll-Stmt Item StmtKind Stmt roll-Item (lower_stmt_step flags) roll-Stmt (record { span = y.span; kind = y.kind.0 }))
+      ∙ fold-roll-Stmt Labelled Bool Bool label_step (stmt_step cx) (λ s. s.kind) (record { span = y.span; kind = lowered_stmt_kind flags y.kind.0 }) in
       subst IsTrue (sym new_is) (y.kind.1
-      (subst IsTrue (fold-roll-Stmt Bool Bool (accessed_step flags) (λ s. s.kind) (record { span = y.span; kind = y.kind.0 })) u)
-      (subst IsTrue (fold-roll-Stmt Bool Bool (stmt_step all) (λ s. s.kind) (record { span = y.span; kind = y.kind.0 })) h))))
+      (subst IsTrue (fold-roll-Stmt Bool Bool Bool (of_item true) (accessed_step flags) (λ s. s.kind) (record { span = y.span; kind = y.kind.0 })) u)
+      (subst IsTrue (fold-roll-Stmt Labelled Bool Bool label_step (stmt_step all) (λ s. s.kind) (record { span = y.span; kind = y.kind.0 })) h))))
 
 pub stmt_typed : (addressed : List Bool) (s : Stmt) → StmtKept addressed s (lowered_stmt addressed s)
 stmt_typed addressed s cx is plain u h =

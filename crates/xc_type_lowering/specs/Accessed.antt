@@ -6,9 +6,10 @@ use Rattle.xc_tree.specs.declared.expr.Expr.{Expr}
 use Rattle.xc_tree.specs.declared.expr.ExprKind.TheOpen.{ExprKind-F, Expr-F}
 use Rattle.xc_tree.specs.declared.expr.ExprKind.TheFolds.{fold-Expr}
 use Rattle.xc_tree.specs.declared.stmt.Stmt.{Stmt}
-use Rattle.xc_tree.specs.declared.stmt.StmtKind.TheOpen.{StmtKind-F}
-use Rattle.xc_tree.specs.declared.stmt.StmtKind.TheFolds.{fold-Stmt}
+use Rattle.xc_tree.specs.declared.stmt.Item.TheOpen.{StmtKind-F}
+use Rattle.xc_tree.specs.declared.stmt.Item.TheFolds.{fold-Stmt}
 use Rattle.xc_tree.specs.Lists.{every, allows}
+use Rattle.xc_tree.specs.Walk.{of_item}
 use Rattle.xc_tree.specs.Types.{is_void}
 use Rattle.xc_type_lowering.specs.Lowered.{value_of}
 
@@ -75,13 +76,14 @@ use_of addressed = fold-Expr UseKind Use (use_step addressed) with_use
 abbrev pub only_accessed : List Bool → Expr → Bool
 only_accessed addressed e = settled (use_of addressed e)
 
-abbrev pub accessed_step : List Bool → StmtKind-F Bool Bool → Bool
+abbrev pub accessed_step : List Bool → StmtKind-F Bool Bool Bool → Bool
 accessed_step addressed (StmtKind-F.Declare x init) = every (map (λ i. only_accessed addressed i.1) init)
 accessed_step addressed (StmtKind-F.Eval e) = only_accessed addressed e
 accessed_step addressed (StmtKind-F.Block all) = every all
 accessed_step addressed (StmtKind-F.If test then other) = only_accessed addressed test && (then && allows (λ b. b) other)
 accessed_step addressed (StmtKind-F.Loop id _ init test step body pragmas) = every init
     && (allows (only_accessed addressed) test && (allows (only_accessed addressed) step && body))
+accessed_step addressed (StmtKind-F.Switch value items) = only_accessed addressed value && every items
 accessed_step addressed (StmtKind-F.Return e) = allows (only_accessed addressed) e
 accessed_step addressed (StmtKind-F.Future place captures body) = only_accessed addressed place
     && (every (map (λ c. only_accessed addressed c.from) captures) && body)
@@ -89,4 +91,4 @@ accessed_step addressed _ = true
 
 -- in the statement
 abbrev pub stmt_accessed : List Bool → Stmt → Bool
-stmt_accessed addressed = fold-Stmt Bool Bool (accessed_step addressed) (λ s. s.kind)
+stmt_accessed addressed = fold-Stmt Bool Bool Bool (of_item true) (accessed_step addressed) (λ s. s.kind)

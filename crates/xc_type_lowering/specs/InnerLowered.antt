@@ -5,8 +5,9 @@ use Rattle.xc_tree.specs.declared.expr.ExprKind.{ExprKind}
 use Rattle.xc_tree.specs.declared.expr.ExprKind.TheFolds.{fold-ExprKind}
 use Rattle.xc_tree.specs.declared.stmt.Stmt.{Stmt}
 use Rattle.xc_tree.specs.declared.stmt.StmtKind.{StmtKind}
-use Rattle.xc_tree.specs.declared.stmt.StmtKind.TheViews.{roll-Stmt}
-use Rattle.xc_tree.specs.declared.stmt.StmtKind.TheFolds.{fold-StmtKind}
+use Rattle.xc_tree.specs.declared.stmt.Item.{Item}
+use Rattle.xc_tree.specs.declared.stmt.Item.TheViews.{roll-Stmt, roll-Item}
+use Rattle.xc_tree.specs.declared.stmt.Item.TheFolds.{fold-StmtKind, fold-Item}
 use Rattle.xc_type_lowering.specs.Lowered.{Lowered, LoweredKind, lower_step, with_kind, lowering, lower_stmt_step}
 
 abbrev pub lowering_kind : List Bool → ExprKind → LoweredKind
@@ -16,4 +17,7 @@ abbrev pub all_lowered : List Bool → List Expr → List Expr
 all_lowered addressed es = map (λ l. l.expr) (map (lowering addressed) es)
 
 abbrev pub lowered_stmt_kind : List Bool → StmtKind → StmtKind
-lowered_stmt_kind addressed = fold-StmtKind StmtKind Stmt (lower_stmt_step addressed) roll-Stmt
+lowered_stmt_kind addressed = fold-StmtKind Item StmtKind Stmt roll-Item (lower_stmt_step addressed) roll-Stmt
+
+abbrev pub lowered_item : List Bool → Item → Item
+lowered_item addressed = fold-Item Item StmtKind Stmt roll-Item (lower_stmt_step addressed) roll-Stmt

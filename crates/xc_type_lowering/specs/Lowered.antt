@@ -10,9 +10,10 @@ use Rattle.xc_tree.specs.declared.expr.ExprKind.TheFolds.{fold-Expr, map-ExprKin
 use Rattle.xc_tree.specs.declared.stmt.Stmt.{Stmt}
 use Rattle.xc_tree.specs.declared.stmt.Capture.{Capture}
 use Rattle.xc_tree.specs.declared.stmt.StmtKind.{StmtKind, roll-StmtKind}
-use Rattle.xc_tree.specs.declared.stmt.StmtKind.TheOpen.{StmtKind-F}
-use Rattle.xc_tree.specs.declared.stmt.StmtKind.TheViews.{roll-Stmt}
-use Rattle.xc_tree.specs.declared.stmt.StmtKind.TheFolds.{fold-Stmt}
+use Rattle.xc_tree.specs.declared.stmt.Item.{Item}
+use Rattle.xc_tree.specs.declared.stmt.Item.TheOpen.{StmtKind-F}
+use Rattle.xc_tree.specs.declared.stmt.Item.TheViews.{roll-Stmt, roll-Item}
+use Rattle.xc_tree.specs.declared.stmt.Item.TheFolds.{fold-Stmt}
 use Rattle.xc_tree.specs.Types.{pointee}
 
 -- expressions ------------------------------------------------------------
@@ -82,18 +83,19 @@ abbrev pub capture_with : (Expr → Expr) → Capture → Capture
 capture_with f c = record { from = f c.from; local = c.local }
 
 -- a statement with other expressions
-abbrev pub with_exprs : {A B : Type 0} → (Expr → Expr) → StmtKind-F A B → StmtKind-F A B
+abbrev pub with_exprs : {A B C : Type 0} → (Expr → Expr) → StmtKind-F A B C → StmtKind-F A B C
 with_exprs f (StmtKind-F.Declare x init) = StmtKind-F.Declare x (map (init_with f) init)
 with_exprs f (StmtKind-F.Eval e) = StmtKind-F.Eval (f e)
 with_exprs f (StmtKind-F.If test then other) = StmtKind-F.If (f test) then other
 with_exprs f (StmtKind-F.Loop id keyword init test step body pragmas) = StmtKind-F.Loop id keyword init (option_map f test) (option_map f step) body pragmas
+with_exprs f (StmtKind-F.Switch value items) = StmtKind-F.Switch (f value) items
 with_exprs f (StmtKind-F.Return e) = StmtKind-F.Return (option_map f e)
 with_exprs f (StmtKind-F.Future place captures body) = StmtKind-F.Future (f place) (map (capture_with f) captures) body
 with_exprs f l = l
 
-abbrev pub lower_stmt_step : List Bool → StmtKind-F StmtKind Stmt → StmtKind
+abbrev pub lower_stmt_step : List Bool → StmtKind-F Item StmtKind Stmt → StmtKind
 lower_stmt_step addressed l = roll-StmtKind (with_exprs (lowered addressed) l)
 
 -- the statement, where `addressed` tells of each local whether its address is taken
 abbrev pub lowered_stmt : List Bool → Stmt → Stmt
-lowered_stmt addressed = fold-Stmt StmtKind Stmt (lower_stmt_step addressed) roll-Stmt
+lowered_stmt addressed = fold-Stmt Item StmtKind Stmt roll-Item (lower_stmt_step addressed) roll-Stmt

@@ -2,7 +2,7 @@
 
 ghost use Rattle.std.specs.Prelude.{◌≡◌, ℕ, List, IfOk};
 ghost use Rattle.xc_tree.specs.Walk.{loop_ids, declared};
-ghost use Rattle.xc_tree.specs.Statements.{Inside, leaves_ok, sees_ok};
+ghost use Rattle.xc_tree.specs.Statements.{leaving, sees_ok};
 ghost use Rattle.xc_type_lowering.specs.Lowered.{lowered, lowered_stmt};
 ghost use Rattle.xc_type_lowering.specs.Kept.{ExprKept, StmtKept};
 
@@ -25,7 +25,7 @@ pub fn lower_expr(alloc: Global, addressed: &[bool], e: &Expr) -> Result<Expr, A
 pub fn lower_stmt(alloc: Global, addressed: &[bool], s: &Stmt) -> Result<Stmt, AllocError>
     ensures made { IfOk result (λ r. r ≡ lowered_stmt addressed.now s.now) }
     ensures typed { StmtKept addressed.now s.now (lowered_stmt addressed.now s.now) }
-    ensures leaves { (w : Inside) → leaves_ok (lowered_stmt addressed.now s.now) w ≡ leaves_ok s.now w }
+    ensures leaves { leaving (lowered_stmt addressed.now s.now) ≡ leaving s.now }
     ensures sees { (seen : List ℕ) → sees_ok (lowered_stmt addressed.now s.now) seen ≡ sees_ok s.now seen }
     ensures loops { loop_ids (lowered_stmt addressed.now s.now) ≡ loop_ids s.now }
     ensures declares { declared (lowered_stmt addressed.now s.now) ≡ declared s.now }

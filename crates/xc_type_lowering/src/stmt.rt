@@ -2,13 +2,13 @@
 
 ghost use Rattle.std.specs.Prelude.{◌≡◌, map, option_map, IfOk};
 ghost use Rattle.xc_type_lowering.specs.Lowered.{init_with, capture_with, lowered, lowered_stmt};
-ghost use Rattle.xc_type_lowering.specs.InnerLowered.{lowered_stmt_kind};
+ghost use Rattle.xc_type_lowering.specs.InnerLowered.{lowered_stmt_kind, lowered_item};
 
 use crate::expr::make_expr;
 use sqlite_items::{Boxed, Items};
 use std::alloc::{AllocError, Global};
 use xc_hold::{both, kept};
-use xc_tree::{Capture, Expr, Pragmas, Stmt, StmtKind, copy_pragmas};
+use xc_tree::{Capture, Expr, Item, Pragmas, Stmt, StmtKind, copy_pragmas};
 
 fn lower_maybe(
     alloc: Global,
@@ -132,6 +132,49 @@ fn lower_block(
 }
 
 #[cycle(lower_statement)]
+fn lower_item(alloc: Global, addressed: &[bool], item: &Item) -> Result<Item, AllocError>
+    ensures { IfOk result (λ r. r ≡ lowered_item addressed.now item.now) }
+{
+    match item {
+        Item::At(word) => Ok(Item::At(*word)),
+        Item::Other => Ok(Item::Other),
+        Item::Do(s) => Ok(Item::Do(make_stmt(alloc, addressed, s)?)),
+    }
+}
+
+#[cycle(lower_statement)]
+fn lower_items(
+    alloc: Global,
+    addressed: &[bool],
+    list: &Items<Item>,
+) -> Result<Items<Item>, AllocError>
+    ensures { IfOk result (λ r. r ≡ map (lowered_item addressed.now) list.now) }
+{
+    let mut all = Items::new(alloc);
+    for item in list.as_slice() {
+        all.push(lower_item(alloc, addressed, item)?)?;
+    }
+    Ok(all)
+}
+
+// The lowered `switch`.
+#[cycle(lower_statement)]
+fn lower_switch(
+    alloc: Global,
+    addressed: &[bool],
+    items: &Items<Item>,
+    value: &Expr,
+) -> Result<StmtKind, AllocError>
+    ensures { IfOk result (λ r. r ≡ StmtKind.Switch (lowered addressed.now value.now) (map (lowered_item addressed.now) items.now)) }
+{
+    let (items, value) = both(
+        lower_items(alloc, addressed, items),
+        make_expr(alloc, addressed, value),
+    )?;
+    Ok(StmtKind::Switch { value, items })
+}
+
+#[cycle(lower_statement)]
 fn lower_stmt_kind(
     alloc: Global,
     addressed: &[bool],
@@ -205,6 +248,7 @@ fn lower_stmt_kind(
                 pragmas,
             })
         }
+        StmtKind::Switch { value, items } => lower_switch(alloc, addressed, items, value),
         StmtKind::Return(e) => Ok(StmtKind::Return(lower_maybe(alloc, addressed, e)?)),
         StmtKind::Break => Ok(StmtKind::Break),
         StmtKind::Continue => Ok(StmtKind::Continue),

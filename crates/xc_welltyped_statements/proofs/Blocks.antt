@@ -5,10 +5,10 @@ use Rattle.std.proofs.lemmas.List.{append-nil}
 use Rattle.xc_text_place.specs.declared.Span.{Span}
 use Rattle.xc_tree.specs.declared.stmt.Stmt.{Stmt}
 use Rattle.xc_tree.specs.declared.stmt.StmtKind.{Block, roll-StmtKind}
-use Rattle.xc_tree.specs.declared.stmt.StmtKind.TheOpen.{StmtKind-F}
+use Rattle.xc_tree.specs.declared.stmt.Item.TheOpen.{StmtKind-F}
 use Rattle.xc_tree.specs.Lists.{every}
 use Rattle.xc_tree.specs.Typed.{Context}
-use Rattle.xc_tree.specs.Statements.{Inside, Leaving, stmt_ok, leaves_ok}
+use Rattle.xc_tree.specs.Statements.{Inside, Leaving, leaving, stmt_ok, leaves_ok, sight}
 use Rattle.xc_tree.proofs.Lists.{and_left, and_right, and_both}
 use Rattle.xc_raw.specs.declared.rule.Rule.{Rule}
 use Rattle.xc_raw.specs.declared.rule.Rule.TheVariants as rule
@@ -28,9 +28,9 @@ use Rattle.xc_welltyped_claims.specs.Env.{Into}
 use Rattle.xc_welltyped_claims.specs.Shaped.{rule_in, is_pragma, is_block_item, is_sub, is_first, ends_in_stmt, all_of, Spoken}
 use Rattle.xc_welltyped_claims.proofs.Env.{extends_then}
 use Rattle.xc_welltyped_claims.proofs.Judges.{made_self, clean_first, clean_second, clean_framed}
-use Rattle.xc_welltyped_statements.specs.Stmts.{sight, leaving, inside, IsStmt, AreStmts, MakesFor}
+use Rattle.xc_welltyped_statements.specs.Stmts.{inside, IsStmt, AreStmts, MakesFor}
 use Rattle.xc_welltyped_statements.proofs.Passing.{passing_order}
-use Rattle.xc_welltyped_statements.proofs.Folds.{IsForm, stmt_by, adds_by}
+use Rattle.xc_welltyped_statements.proofs.Folds.{IsForm, stmt_by, adds_by, leaving_by}
 use Rattle.xc_welltyped_statements.proofs.Places.{into_as, ready_past, extends_past, answer_inside, ready_inside, covers_inside, extends_block, ready_block, covers_block, into_block}
 use Rattle.xc_welltyped_statements.proofs.Joins.{stmts_none, stmts_both}
 use Rattle.xc_welltyped_statements.proofs.Simple.{MadeOne, answer_extends}
@@ -57,6 +57,7 @@ pub record MadeBlock (t : Text) (a : Answer) (looping : Bool) (ns : List Raw) (e
   pub is_made : o ≡ Some made
   pub stmt : IsStmt t a looping e e' made
   pub adds : (sight made).adds ≡ []
+  pub braces : IsTrue (leaving made).braces
   pub spoken : Each (Spoken t) ns
 
 stmt_item : (r : Rule) → IsTrue (is_stmt r) → IsTrue (is_block_item r)
@@ -167,6 +168,7 @@ module _ (t : Text) (a : Answer) (looping : Bool) where
           is_made = block_is span s.made (j e).part s.known;
           stmt = stmt_by t a looping e (env.past_pragmas e') span (StmtKind-F.Block s.made) (block_form e e' s.made s.stmts);
           adds = adds_by span (StmtKind-F.Block s.made);
+          braces = ap (λ (l : Leaving). l.braces) (leaving_by span (StmtKind-F.Block s.made));
           spoken = s.spoken;
         };
       }

@@ -7,10 +7,10 @@ use Rattle.xc_tree.specs.declared.ty.Ty.{Ty}
 use Rattle.xc_tree.specs.declared.expr.Expr.{Expr}
 use Rattle.xc_tree.specs.declared.stmt.Stmt.{Stmt}
 use Rattle.xc_tree.specs.declared.stmt.StmtKind.{If, roll-StmtKind}
-use Rattle.xc_tree.specs.declared.stmt.StmtKind.TheOpen.{StmtKind-F}
+use Rattle.xc_tree.specs.declared.stmt.Item.TheOpen.{StmtKind-F}
 use Rattle.xc_tree.specs.Types.{is_plain}
 use Rattle.xc_tree.specs.Walk.{loop_ids, declared}
-use Rattle.xc_tree.specs.Statements.{test_ok, stmt_ok, leaves_ok, sees, sees_ok}
+use Rattle.xc_tree.specs.Statements.{test_ok, stmt_ok, leaving, part_ok, sight, sees, sees_ok}
 use Rattle.xc_tree.proofs.Lists.{and_left, and_right, and_both}
 use Rattle.xc_raw.specs.declared.tree.Raw.{Raw}
 use Rattle.xc_parse_grammar.specs.Grammar.{is_stmt}
@@ -29,10 +29,10 @@ use Rattle.xc_welltyped_claims.specs.Shaped.{rule_in, is_block_item, is_first, i
 use Rattle.xc_welltyped_claims.proofs.Lists.{set_then, starts_length}
 use Rattle.xc_welltyped_claims.proofs.Env.{extends_then, into_before}
 use Rattle.xc_welltyped_claims.proofs.Judges.{made_self, made_of, clean_first, clean_second, clean_mapped}
-use Rattle.xc_welltyped_statements.specs.Stmts.{IsStmt, AreStmts, MadeStmts, PartFine, MakesFor}
+use Rattle.xc_welltyped_statements.specs.Stmts.{inside, IsStmt, AreStmts, MadeStmts, PartFine, MakesFor}
 use Rattle.xc_welltyped_statements.proofs.Passing.{passing_else, statement_passing, each_map}
 use Rattle.xc_welltyped_statements.specs.Stmts.{PartPassing}
-use Rattle.xc_welltyped_statements.proofs.Folds.{IsForm, stmt_by, adds_by}
+use Rattle.xc_welltyped_statements.proofs.Folds.{IsForm, stmt_by, adds_by, part_leaves}
 use Rattle.xc_welltyped_statements.proofs.Fresh.{fresh_both}
 use Rattle.xc_welltyped_statements.proofs.Values.{IsValue, test_typed}
 use Rattle.xc_welltyped_statements.proofs.Joins.{stmt_alone}
@@ -87,25 +87,25 @@ module _ (t : Text) (a : Answer) (looping : Bool) where
 
   -- ---- `if`
 
-  module _ (b d e : Env) (ty : Ty) (x : Expr) (s : Stmt) (k : Stays b d) (l : Extends d e) (v : IsValue t d ty x) (p : IsTrue (is_plain ty)) (f : IsStmt t a looping d e s) where
+  module _ (b d e : Env) (ty : Ty) (x : Expr) (s : Stmt) (k : Stays b d) (l : Extends d e) (v : IsValue t d ty x) (p : IsTrue (is_plain ty)) (f : IsStmt t a looping d e s) (q : (sight s).adds ≡ []) where
     first : IsStmt t a looping b e s
     first = stmt_first t a looping b d e s k f
 
     pub if_alone : IsForm t a looping b e (StmtKind-F.If x s None)
     if_alone = record {
       typed = λ cx i. and_both (test_ok cx x) _ (test_typed t d ty x v p cx (into_before t cx d e l i)) (and_both (stmt_ok cx s) true (f.typed cx i) refl);
-      leaves = λ cx i ret h. and_both (leaves_ok s _) true (f.leaves cx i ret h) refl;
+      leaves = λ cx i ret h. and_both (part_ok (leaving s) (inside ret looping)) true (part_leaves s (inside ret looping) q (f.leaves cx i ret h)) refl;
       sees = λ seen c. and_both (sees seen x) _ (v.seen seen (covers_stays seen b d k c)) (and_both (sees_ok s seen) true (first.sees seen c) refl);
       ids = subst (λ l. Fresh b.loops e.loops l) (sym (append-nil (loop_ids s))) first.ids;
       declares = subst (λ l. Fresh (length b.locals) (length e.locals) l) (sym (append-nil (declared s))) first.declares;
       used = λ flags m. and_both (only_accessed flags x) _ (v.used flags (set_then d.addressed e.addressed flags l.addressed m)) (and_both (stmt_accessed flags s) true (f.used flags m) refl);
     }
 
-    pub if_both : (e' : Env) (o : Stmt) → Extends e e' → ((seen : List ℕ) → Covers seen d → Covers seen e) → IsStmt t a looping e e' o → IsForm t a looping b e' (StmtKind-F.If x s (Some o))
-    if_both e' o l' cs g = record {
+    pub if_both : (e' : Env) (o : Stmt) → Extends e e' → ((seen : List ℕ) → Covers seen d → Covers seen e) → IsStmt t a looping e e' o → (sight o).adds ≡ [] → IsForm t a looping b e' (StmtKind-F.If x s (Some o))
+    if_both e' o l' cs g r = record {
       typed = λ cx i. and_both (test_ok cx x) _ (test_typed t d ty x v p cx (into_before t cx d e' (extends_then d e e' l l') i))
           (and_both (stmt_ok cx s) _ (f.typed cx (into_before t cx e e' l' i)) (g.typed cx i));
-      leaves = λ cx i ret h. and_both (leaves_ok s _) _ (f.leaves cx (into_before t cx e e' l' i) ret h) (g.leaves cx i ret h);
+      leaves = λ cx i ret h. and_both (part_ok (leaving s) (inside ret looping)) _ (part_leaves s (inside ret looping) q (f.leaves cx (into_before t cx e e' l' i) ret h)) (part_leaves o (inside ret looping) r (g.leaves cx i ret h));
       sees = λ seen c. and_both (sees seen x) _ (v.seen seen (covers_stays seen b d k c)) (and_both (sees_ok s seen) _ (first.sees seen c) (g.sees seen (cs seen (covers_stays seen b d k c))));
       ids = fresh_both b.loops e.loops e'.loops _ _ (subst (λ n. n ≤ e.loops) k.loops l.loops) l'.loops first.ids g.ids;
       declares = fresh_both (length b.locals) (length e.locals) (length e'.locals) _ _ (subst (λ q. length q ≤ length e.locals) k.locals (starts_length d.locals e.locals l.locals)) (starts_length e.locals e'.locals l'.locals) first.declares g.declares;
@@ -117,13 +117,13 @@ module _ (t : Text) (a : Answer) (looping : Bool) where
   pub record MadeElse (ns : List Raw) (e e' : Env) (o : Option (Option Stmt)) : Type 0 where
     pub made : Option Stmt
     pub is_made : o ≡ Some made
-    pub form : (b d : Env) (ty : Ty) (x : Expr) (s : Stmt) → Stays b d → Extends d e → IsValue t d ty x → IsTrue (is_plain ty) → IsStmt t a looping d e s → ((seen : List ℕ) → Covers seen d → Covers seen e) → IsForm t a looping b e' (StmtKind-F.If x s made)
+    pub form : (b d : Env) (ty : Ty) (x : Expr) (s : Stmt) → Stays b d → Extends d e → IsValue t d ty x → IsTrue (is_plain ty) → IsStmt t a looping d e s → (sight s).adds ≡ [] → ((seen : List ℕ) → Covers seen d → Covers seen e) → IsForm t a looping b e' (StmtKind-F.If x s made)
     pub covers : (seen : List ℕ) → Covers seen e → Covers seen e'
     pub spoken : Each (Spoken t) ns
 
   pub else_fine : (ns : List Raw) → Each (PartIs t) ns → IsTrue (one_at_most is_sub ns) → MakesFor t a (MadeElse ns) (else_by a looping (map (statement t) ns))
   unfolding else_by
-  else_fine [] h o e r w c = made_self e _ r (record { made = None; is_made = refl; form = λ b d ty x s k l v p f cs. if_alone b d e ty x s k l v p f; covers = λ seen c. c; spoken = tt })
+  else_fine [] h o e r w c = made_self e _ r (record { made = None; is_made = refl; form = λ b d ty x s k l v p f q cs. if_alone b d e ty x s k l v p f q; covers = λ seen c. c; spoken = tt })
   else_fine (n ∷ ns) h o e r w c =
       let j = under a looping (statement t n) in
       let e' = (j e).env in
@@ -135,7 +135,7 @@ module _ (t : Text) (a : Answer) (looping : Bool) where
         holds = record {
           made = Some m.holds.made;
           is_made = ap there m.holds.is_made;
-          form = λ b d ty x s k l v p f cs. if_both b d e ty x s k l v p f e' m.holds.made m.extends cs m.holds.stmt;
+          form = λ b d ty x s k l v p f q cs. if_both b d e ty x s k l v p f q e' m.holds.made m.extends cs m.holds.stmt m.holds.adds;
           covers = m.holds.covers;
           spoken = one_spoken t n ns (and_right (is_sub (rule_in n)) _ o) m.holds.spoken.0;
         };
@@ -179,7 +179,7 @@ module _ (t : Text) (valued : Valued t) where
           holds = record {
             made = stmt span (If g.holds.made m2.holds.made m3.holds.made);
             is_made = if_is span g.holds.made m2.holds.made m3.holds.made _ _ _ g.holds.is_made m2.holds.is_made m3.holds.is_made;
-            stmt = stmt_by t a looping e e3 span f (m3.holds.form e e1 g.holds.ty g.holds.made m2.holds.made g.stays m2.extends g.holds.value g.holds.passes m2.holds.stmt m2.holds.covers);
+            stmt = stmt_by t a looping e e3 span f (m3.holds.form e e1 g.holds.ty g.holds.made m2.holds.made g.stays m2.extends g.holds.value g.holds.passes m2.holds.stmt m2.holds.adds m2.holds.covers);
             adds = adds_by span f;
             covers = λ seen k. m3.holds.covers seen (m2.holds.covers seen (covers_stays seen e e1 g.stays k));
             spoken = (g.holds.spoken, (m2.holds.spoken.0, m3.holds.spoken));

@@ -8,12 +8,12 @@ use Rattle.xc_tree.specs.declared.ty.Ty.{Ty}
 use Rattle.xc_tree.specs.declared.expr.Expr.{Expr}
 use Rattle.xc_tree.specs.declared.stmt.Stmt.{Stmt}
 use Rattle.xc_tree.specs.declared.stmt.StmtKind.{Declare, roll-StmtKind}
-use Rattle.xc_tree.specs.declared.stmt.StmtKind.TheOpen.{StmtKind-F}
+use Rattle.xc_tree.specs.declared.stmt.Item.TheOpen.{StmtKind-F}
 use Rattle.xc_tree.specs.declared.tree.Local.{Local}
 use Rattle.xc_tree.specs.Lists.{every, ascending, passes}
 use Rattle.xc_tree.specs.Types.{may_hold, cell_of}
 use Rattle.xc_tree.specs.Typed.{Context, value_ok}
-use Rattle.xc_tree.specs.Statements.{Leaving, clause_ok, sees, init_ok, inits_ok}
+use Rattle.xc_tree.specs.Statements.{Leaving, leaving, clause_ok, sight, sees, init_ok, inits_ok}
 use Rattle.xc_tree.proofs.Lists.{and_left, and_right, and_both}
 use Rattle.xc_raw.specs.declared.rule.Rule.{Rule}
 use Rattle.xc_raw.specs.declared.rule.Rule.TheVariants as rule
@@ -39,7 +39,7 @@ use Rattle.xc_welltyped_claims.proofs.Judges.{given_self, made_self, made_of, cl
 use Rattle.xc_welltyped_claims.proofs.Nodes.{parts_shaped, level_shaped}
 use Rattle.xc_welltyped_claims.proofs.Strings.{spoken_of}
 use Rattle.xc_welltyped_statements.specs.Inits.{AreInits, is_init_ok, LocalInits}
-use Rattle.xc_welltyped_statements.specs.Stmts.{sight, leaving, IsStmt, AreStmts, IsObject}
+use Rattle.xc_welltyped_statements.specs.Stmts.{IsStmt, AreStmts, IsObject}
 use Rattle.xc_welltyped_statements.proofs.Passing.{passing_object, passing_initialised, passing_declares_all}
 use Rattle.xc_welltyped_statements.proofs.Folds.{IsForm, stmt_by, adds_by, leaving_by}
 use Rattle.xc_welltyped_statements.proofs.Fresh.{fresh_none, fresh_one}

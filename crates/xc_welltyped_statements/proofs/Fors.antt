@@ -6,11 +6,11 @@ use Rattle.xc_tree.specs.declared.expr.Expr.{Expr}
 use Rattle.xc_tree.specs.declared.stmt.Stmt.{Stmt}
 use Rattle.xc_tree.specs.declared.stmt.LoopForm.TheVariants as form
 use Rattle.xc_tree.specs.declared.stmt.StmtKind.{Loop, roll-StmtKind}
-use Rattle.xc_tree.specs.declared.stmt.StmtKind.TheOpen.{StmtKind-F}
+use Rattle.xc_tree.specs.declared.stmt.Item.TheOpen.{StmtKind-F}
 use Rattle.xc_tree.specs.Lists.{allows, joined}
 use Rattle.xc_tree.specs.Typed.{Context, value_ok}
 use Rattle.xc_tree.specs.Walk.{loop_ids, declared}
-use Rattle.xc_tree.specs.Statements.{test_ok, sees, added, clause_ok}
+use Rattle.xc_tree.specs.Statements.{test_ok, leaving, sight, sees, added, clause_ok}
 use Rattle.xc_tree.proofs.Lists.{and_left, and_right}
 use Rattle.xc_raw.specs.declared.rule.Rule.{Rule}
 use Rattle.xc_raw.specs.declared.rule.Rule.TheVariants as rule
@@ -37,9 +37,9 @@ use Rattle.xc_welltyped_claims.proofs.Env.{stays_then, stays_extends, extends_th
 use Rattle.xc_welltyped_claims.proofs.Judges.{given_self, made_of, clean_first, clean_second, clean_mapped, clean_framed}
 use Rattle.xc_welltyped_claims.proofs.Nodes.{parts_shaped, level_shaped}
 use Rattle.xc_welltyped_claims.proofs.Strings.{spoken_of}
-use Rattle.xc_welltyped_statements.specs.Stmts.{sight, leaving, IsStmt, AreStmts, MakesFor, HasBegun}
+use Rattle.xc_welltyped_statements.specs.Stmts.{inside, IsStmt, AreStmts, MakesFor, HasBegun}
 use Rattle.xc_welltyped_statements.proofs.Passing.{passing_test, passing_step, statement_passing}
-use Rattle.xc_welltyped_statements.proofs.Folds.{stmt_by, adds_by}
+use Rattle.xc_welltyped_statements.proofs.Folds.{stmt_by, adds_by, part_leaves}
 use Rattle.xc_welltyped_statements.proofs.Fresh.{fresh_both}
 use Rattle.xc_welltyped_statements.proofs.Places.{answer_inside, ready_inside, covers_inside, extends_block, ready_block, covers_block, into_block, into_inside}
 use Rattle.xc_welltyped_statements.proofs.Values.{test_typed}
@@ -200,9 +200,9 @@ module _ (t : Text) (lexed : IsLexed t) (valued : Valued t) where
         };
       }
 
-  for_looped : (a : Answer) (e e1 e3 : Env) (b : Begun) (n m k : Raw) (o : Option Header) (h : HasBegun t e e1 b) (q : MadeClauses a n m k (env.inside e1) e3 o) (e4 : Env) (s : Stmt) → Extends e3 e4 → IsStmt t a true e3 e4 s → Extends (env.inside e1) e4 →
+  for_looped : (a : Answer) (e e1 e3 : Env) (b : Begun) (n m k : Raw) (o : Option Header) (h : HasBegun t e e1 b) (q : MadeClauses a n m k (env.inside e1) e3 o) (e4 : Env) (s : Stmt) → Extends e3 e4 → IsStmt t a true e3 e4 s → (sight s).adds ≡ [] → Extends (env.inside e1) e4 →
       Looped t a e (env.outside e4) form.For b q.init q.test q.step s
-  for_looped a e e1 e3 b n m k o h q e4 s l f all =
+  for_looped a e e1 e3 b n m k o h q e4 s l f adds all =
       let e2 = env.inside e1 in
       let c2 : (seen : List ℕ) → Covers seen e → Covers seen e2 = λ seen c. covers_inside seen e1 (covers_begun t e e1 b h seen c) in
       let c3 : (seen : List ℕ) → Covers seen e → Covers (added (map sight q.init) seen) e3 = λ seen c. covers_stays (added (map sight q.init) seen) q.between e3 q.stays (q.stmts.sees seen (c2 seen c)).1 in
@@ -215,7 +215,7 @@ module _ (t : Text) (lexed : IsLexed t) (valued : Valued t) where
         body = λ cx i. f.typed cx (into_block t cx e4 i);
         pragmas = λ cx i. h.pragmas cx (into_inside t cx e1 (into_before t cx e2 e4 all (into_block t cx e4 i)));
         header = q.clause;
-        leaves = λ cx i ret r. f.leaves cx (into_block t cx e4 i) ret r;
+        leaves = λ cx i ret r. part_leaves s (inside ret true) adds (f.leaves cx (into_block t cx e4 i) ret r);
         roots = h.sees;
         firsts = λ seen c. (q.stmts.sees seen (c2 seen c)).0;
         test_sees = λ seen c. q.test_sees _ (c3 seen c);
@@ -266,7 +266,7 @@ module _ (t : Text) (lexed : IsLexed t) (valued : Valued t) where
           made = stmt span (Loop b.id form.For q.init q.test q.step s.made b.pragmas);
           is_made = loop_is span form.For b (record { init = q.init; test = q.test; step = q.step }) s.made _ _ q.is_made s.is_made;
           stmt = stmt_by t a looping e (env.outside e4) span f (loop_form t a looping e (env.outside e4) form.For b q.init q.test q.step s.made
-              (for_looped a e e1 e3 b n m k (j2 e2).part m1.holds q e4 s.made m3.extends s.stmt all));
+              (for_looped a e e1 e3 b n m k (j2 e2).part m1.holds q e4 s.made m3.extends s.stmt s.adds all));
           adds = adds_by span f;
           covers = λ seen d. covers_block e1 e4 all seen (covers_begun t e e1 b m1.holds seen d);
           spoken = (q.spoken.0, (q.spoken.1.0, (q.spoken.1.1.0, (s.spoken.0, tt))));

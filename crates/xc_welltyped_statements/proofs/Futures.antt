@@ -8,12 +8,12 @@ use Rattle.xc_tree.specs.declared.expr.Expr.{Expr}
 use Rattle.xc_tree.specs.declared.stmt.Stmt.{Stmt}
 use Rattle.xc_tree.specs.declared.stmt.Capture.{Capture}
 use Rattle.xc_tree.specs.declared.stmt.StmtKind.{Future, roll-StmtKind}
-use Rattle.xc_tree.specs.declared.stmt.StmtKind.TheOpen.{StmtKind-F}
+use Rattle.xc_tree.specs.declared.stmt.Item.TheOpen.{StmtKind-F}
 use Rattle.xc_tree.specs.Lists.{every, allows, passes}
 use Rattle.xc_tree.specs.Types.{base_at, future_of, future_at, future_under}
 use Rattle.xc_tree.specs.Typed.{Context, expr_ok}
 use Rattle.xc_tree.specs.Walk.{loop_ids, declared}
-use Rattle.xc_tree.specs.Statements.{capture_ok, leaves_ok, sees}
+use Rattle.xc_tree.specs.Statements.{capture_ok, leaving, body_ok, sees}
 use Rattle.xc_tree.proofs.Lists.{and_left, and_right, and_both}
 use Rattle.xc_raw.specs.declared.rule.Rule.TheVariants as rule
 use Rattle.xc_raw.specs.declared.tree.Raw.{Raw, out-Raw}
@@ -53,7 +53,7 @@ use Rattle.xc_welltyped_claims.specs.Shaped.{rule_in, is_place, is_block, level_
 use Rattle.xc_welltyped_claims.proofs.Lists.{set_then, starts_length}
 use Rattle.xc_welltyped_claims.proofs.Env.{point, at_point, stays_extends, extends_then, into_before}
 use Rattle.xc_welltyped_claims.proofs.Judges.{made_of, clean_first, clean_second}
-use Rattle.xc_welltyped_statements.specs.Stmts.{inside, IsStmt, AnswerFine, MakesFor}
+use Rattle.xc_welltyped_statements.specs.Stmts.{IsStmt, AnswerFine, MakesFor}
 use Rattle.xc_welltyped_statements.proofs.Passing.{passing_begins, passing_copied, statement_passing}
 use Rattle.xc_welltyped_statements.proofs.Folds.{IsForm, stmt_by, adds_by}
 use Rattle.xc_welltyped_statements.proofs.Fresh.{fresh_both}
@@ -191,7 +191,7 @@ into_behind : (t : Text) (cx : Context) (e e' : Env) → Into t cx (env.after_fu
 into_behind t cx e e' i = into_as t cx (env.after_future (env.outside_of e) e') e' refl refl refl i
 
 module _ (t : Text) (a : Answer) (looping : Bool) (p : Raw) (e e1 e2 f3 f4 : Env) (k1 : Stays e e1) (k2 : Stays e1 e2) (x3 : Extends (env.in_future e2) f3) (x4 : Extends f3 f4)
-    (o : Option Expr × Answer) (w : MadeAwaited t p e1 o) (cs : Option (List Capture)) (q : MadeCopies t e2 (env.in_future e2) f3 cs) (s : Stmt) (f : IsStmt t o.1 false f3 f4 s) where
+    (o : Option Expr × Answer) (w : MadeAwaited t p e1 o) (cs : Option (List Capture)) (q : MadeCopies t e2 (env.in_future e2) f3 cs) (s : Stmt) (f : IsStmt t o.1 false f3 f4 s) (b : IsTrue (leaving s).braces) where
   abbrev after : Env
   after = env.after_future (env.outside_of e2) f4
 
@@ -219,7 +219,7 @@ module _ (t : Text) (a : Answer) (looping : Bool) (p : Raw) (e e1 e2 f3 f4 : Env
   future_form : IsForm t a looping e after (StmtKind-F.Future w.made q.made s)
   future_form = record {
     typed = λ cx i. and_both (expr_ok cx w.made) _ (w.typed cx (into_one cx i)) (and_both (every (map (capture_ok cx) q.made)) _ (every_of (capture_ok cx) q.made (q.fits cx (into_two cx i) (into_three cx i))) (f.typed cx (into_four cx i)));
-    leaves = λ cx i ret r. subst (λ u. IsTrue (passes (λ t. leaves_ok s (inside t false)) u)) (sym (w.under cx (into_one cx i))) (f.leaves cx (into_four cx i) w.of (ap answer_ty w.answer));
+    leaves = λ cx i ret r. subst (λ u. IsTrue (passes (body_ok (leaving s)) u)) (sym (w.under cx (into_one cx i))) (and_both (leaving s).braces _ b (f.leaves cx (into_four cx i) w.of (ap answer_ty w.answer)));
     sees = λ seen c.
         let c1 = covers_stays seen e e1 k1 c in
         and_both (sees seen w.made) _ (w.seen seen c1) (and_both (every (map (λ c. sees seen c.from) q.made)) _ (every_of (λ c. sees seen c.from) q.made (q.seen seen (covers_stays seen e1 e2 k2 c1)))
@@ -287,7 +287,7 @@ module _ (t : Text) (lexed : IsLexed t) (valued : Valued t) (places : PlacesFine
         holds = record {
           made = stmt span (Future v.made q.made s.made);
           is_made = future_is span v.made q.made s.made _ _ _ v.is_made q.known s.known;
-          stmt = stmt_by t a looping e e5 span form (future_form t a looping p e e1 e2 f3 f4 g1.stays g2.stays m3.extends m4.extends o v (j4 f2).part q s.made s.stmt);
+          stmt = stmt_by t a looping e e5 span form (future_form t a looping p e e1 e2 f3 f4 g1.stays g2.stays m3.extends m4.extends o v (j4 f2).part q s.made s.stmt s.braces);
           adds = adds_by span form;
           covers = λ seen z. covers_stays seen e1 e2 g2.stays (covers_stays seen e e1 g1.stays z);
           spoken = (v.spoken, (s.spoken, tt));

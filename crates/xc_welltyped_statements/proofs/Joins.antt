@@ -5,7 +5,7 @@ use Rattle.std.proofs.lemmas.List.{append-nil}
 use Rattle.xc_tree.specs.declared.stmt.Stmt.{Stmt}
 use Rattle.xc_tree.specs.Lists.{joined}
 use Rattle.xc_tree.specs.Walk.{loop_ids, declared}
-use Rattle.xc_tree.specs.Statements.{leaves_ok, sees_all, added, stmt_ok}
+use Rattle.xc_tree.specs.Statements.{leaves_ok, sight, sees_all, added, stmt_ok}
 use Rattle.xc_tree.proofs.Lists.{and_left, and_right, and_both}
 use Rattle.xc_type_scopes.specs.declared.env.Env.{Env}
 use Rattle.xc_type_expressions.specs.declared.text.Text.{Text}
@@ -16,7 +16,7 @@ use Rattle.xc_welltyped_claims.specs.Things.{InScopes, SeenThing}
 use Rattle.xc_welltyped_claims.specs.Env.{Extends, Covers}
 use Rattle.xc_welltyped_claims.proofs.Lists.{each_both, set_then, starts_length}
 use Rattle.xc_welltyped_claims.proofs.Env.{into_before}
-use Rattle.xc_welltyped_statements.specs.Stmts.{sight, inside, AreStmts, IsStmt}
+use Rattle.xc_welltyped_statements.specs.Stmts.{inside, AreStmts, IsStmt}
 use Rattle.xc_welltyped_statements.proofs.Fresh.{fresh_none, fresh_both, joined_both}
 
 -- sight ---------------------------------------------------------------------------

@@ -7,11 +7,11 @@ use Rattle.xc_tree.specs.declared.expr.Expr.{Expr}
 use Rattle.xc_tree.specs.declared.stmt.Stmt.{Stmt}
 use Rattle.xc_tree.specs.declared.stmt.LoopForm.{LoopForm}
 use Rattle.xc_tree.specs.declared.stmt.StmtKind.{Loop}
-use Rattle.xc_tree.specs.declared.stmt.StmtKind.TheOpen.{StmtKind-F}
+use Rattle.xc_tree.specs.declared.stmt.Item.TheOpen.{StmtKind-F}
 use Rattle.xc_tree.specs.Lists.{allows, joined, every}
 use Rattle.xc_tree.specs.Typed.{Context, value_ok}
 use Rattle.xc_tree.specs.Walk.{loop_ids, declared}
-use Rattle.xc_tree.specs.Statements.{header_ok, test_ok, stmt_ok, leaves_ok, sees, sees_all, added, sees_ok, pragmas_ok, sees_pragmas}
+use Rattle.xc_tree.specs.Statements.{header_ok, test_ok, stmt_ok, leaving, part_ok, sight, sees, sees_all, added, sees_ok, pragmas_ok, sees_pragmas}
 use Rattle.xc_tree.proofs.Lists.{and_both}
 use Rattle.xc_type_scopes.specs.declared.env.Env.{Env}
 use Rattle.xc_type_expressions.specs.declared.text.Text.{Text}
@@ -23,7 +23,7 @@ use Rattle.xc_type_statement_parts.specs.Making.{Stmts, stmt, headed, test_alone
 use Rattle.xc_type_lowering.specs.Accessed.{only_accessed, stmt_accessed}
 use Rattle.xc_welltyped_claims.specs.Lists.{Each, StaysSet, Fresh}
 use Rattle.xc_welltyped_claims.specs.Env.{Into, Covers}
-use Rattle.xc_welltyped_statements.specs.Stmts.{sight, leaving, inside}
+use Rattle.xc_welltyped_statements.specs.Stmts.{inside}
 use Rattle.xc_welltyped_statements.proofs.Folds.{IsForm}
 use Rattle.xc_welltyped_statements.proofs.Fresh.{less_more, one_more, fresh_one, fresh_both}
 use Rattle.xc_welltyped_structs.proofs.Lists.{every_of}
@@ -35,7 +35,7 @@ pub record Looped (t : Text) (a : Answer) (e e' : Env) (f : LoopForm) (b : Begun
   pub body : (cx : Context) → Into t cx e' → IsTrue (stmt_ok cx s)
   pub pragmas : (cx : Context) → Into t cx e' → IsTrue (pragmas_ok cx b.pragmas)
   pub header : IsTrue (header_ok f (map leaving init) test step)
-  pub leaves : (cx : Context) → Into t cx e' → (ret : Ty) → answer_ty a ≡ Some ret → IsTrue (leaves_ok s (inside ret true))
+  pub leaves : (cx : Context) → Into t cx e' → (ret : Ty) → answer_ty a ≡ Some ret → IsTrue (part_ok (leaving s) (inside ret true))
   pub roots : (seen : List ℕ) → Covers seen e → IsTrue (sees_pragmas seen b.pragmas)
   pub firsts : (seen : List ℕ) → Covers seen e → IsTrue (sees_all (map sight init) seen)
   pub test_sees : (seen : List ℕ) → Covers seen e → IsTrue (allows (sees (added (map sight init) seen)) test)

@@ -1,5 +1,5 @@
 -- `while` and `do`.
-use Rattle.std.proofs.Common.{ℕ, ◌+◌, ◌≤◌, List, [], ◌∷◌, length, map, Bool, true, refl, sym, ◌∙◌, subst, arith}
+use Rattle.std.proofs.Common.{◌≡◌, ℕ, ◌+◌, ◌≤◌, List, [], ◌∷◌, length, map, Bool, true, refl, sym, ◌∙◌, subst, arith}
 use Rattle.std.specs.Prelude.{IsTrue, Option, Some, None}
 use Rattle.xc_text_place.specs.declared.Span.{Span}
 use Rattle.xc_tree.specs.declared.ty.Ty.{Ty}
@@ -8,11 +8,11 @@ use Rattle.xc_tree.specs.declared.stmt.Stmt.{Stmt}
 use Rattle.xc_tree.specs.declared.stmt.LoopForm.{LoopForm}
 use Rattle.xc_tree.specs.declared.stmt.LoopForm.TheVariants as form
 use Rattle.xc_tree.specs.declared.stmt.StmtKind.{Loop, roll-StmtKind}
-use Rattle.xc_tree.specs.declared.stmt.StmtKind.TheOpen.{StmtKind-F}
+use Rattle.xc_tree.specs.declared.stmt.Item.TheOpen.{StmtKind-F}
 use Rattle.xc_tree.specs.Types.{is_plain}
 use Rattle.xc_tree.specs.Typed.{Context}
 use Rattle.xc_tree.specs.Walk.{loop_ids, declared}
-use Rattle.xc_tree.specs.Statements.{header_ok}
+use Rattle.xc_tree.specs.Statements.{header_ok, sight}
 use Rattle.xc_raw.specs.declared.tree.Raw.{Raw}
 use Rattle.xc_type_scopes.specs.declared.env.Env.{Env}
 use Rattle.xc_type_scopes.specs.Judge.{Judge, give, and_then}
@@ -30,9 +30,9 @@ use Rattle.xc_welltyped_claims.specs.Shaped.{rule_in, is_expr, is_sub}
 use Rattle.xc_welltyped_claims.proofs.Lists.{set_then, starts_length}
 use Rattle.xc_welltyped_claims.proofs.Env.{stays_extends, extends_then, into_before}
 use Rattle.xc_welltyped_claims.proofs.Judges.{made_of, clean_first, clean_second}
-use Rattle.xc_welltyped_statements.specs.Stmts.{IsStmt, MakesFor, HasBegun}
+use Rattle.xc_welltyped_statements.specs.Stmts.{inside, IsStmt, MakesFor, HasBegun}
 use Rattle.xc_welltyped_statements.proofs.Passing.{passing_tested, statement_passing}
-use Rattle.xc_welltyped_statements.proofs.Folds.{stmt_by, adds_by}
+use Rattle.xc_welltyped_statements.proofs.Folds.{stmt_by, adds_by, part_leaves}
 use Rattle.xc_welltyped_statements.proofs.Fresh.{fresh_wider}
 use Rattle.xc_welltyped_statements.proofs.Values.{IsValue, test_typed}
 use Rattle.xc_welltyped_statements.proofs.Simple.{covers_stays, MadeOne, Valued, answer_extends}
@@ -56,8 +56,8 @@ module _ (t : Text) (a : Answer) where
     declares_from : (e3 : Env) (s : Stmt) → Fresh (length e1.locals) (length e3.locals) (declared s) → Fresh (length e.locals) (length e3.locals) (declared s)
     declares_from e3 s = subst (λ l. Fresh (length l) (length e3.locals) (declared s)) h.locals
 
-    pub while_looped : (e2 e3 : Env) (ty : Ty) (x : Expr) (s : Stmt) → Stays e1 e2 → Extends e2 e3 → IsValue t e2 ty x → IsTrue (is_plain ty) → IsStmt t a true e2 e3 s → Looped t a e e3 f b [] (Some x) None s
-    while_looped e2 e3 ty x s k l v p g =
+    pub while_looped : (e2 e3 : Env) (ty : Ty) (x : Expr) (s : Stmt) → Stays e1 e2 → Extends e2 e3 → IsValue t e2 ty x → IsTrue (is_plain ty) → IsStmt t a true e2 e3 s → (sight s).adds ≡ [] → Looped t a e e3 f b [] (Some x) None s
+    while_looped e2 e3 ty x s k l v p g q =
         let back : (cx : Context) → Into t cx e3 → Into t cx e1 = λ cx i. into_before t cx e1 e3 (extends_then e1 e2 e3 (stays_extends e1 e2 k) l) i in
         let c1 : (seen : List ℕ) → Covers seen e → Covers seen e2 = λ seen c. covers_stays seen e1 e2 k (covers_begun t e e1 b h seen c) in
         record {
@@ -67,7 +67,7 @@ module _ (t : Text) (a : Answer) where
           body = λ cx i. g.typed cx i;
           pragmas = λ cx i. h.pragmas cx (back cx i);
           header = hd x;
-          leaves = λ cx i ret r. g.leaves cx i ret r;
+          leaves = λ cx i ret r. part_leaves s (inside ret true) q (g.leaves cx i ret r);
           roots = λ seen c. h.sees seen c;
           firsts = λ seen c. refl;
           test_sees = λ seen c. v.seen seen (c1 seen c);
@@ -83,8 +83,8 @@ module _ (t : Text) (a : Answer) where
           body_used = λ flags m. g.used flags m;
         }
 
-    pub do_looped : (e2 e3 : Env) (ty : Ty) (x : Expr) (s : Stmt) → Extends e1 e2 → Stays e2 e3 → IsValue t e3 ty x → IsTrue (is_plain ty) → IsStmt t a true e1 e2 s → ((seen : List ℕ) → Covers seen e1 → Covers seen e2) → Looped t a e e3 f b [] (Some x) None s
-    do_looped e2 e3 ty x s l k v p g cs =
+    pub do_looped : (e2 e3 : Env) (ty : Ty) (x : Expr) (s : Stmt) → Extends e1 e2 → Stays e2 e3 → IsValue t e3 ty x → IsTrue (is_plain ty) → IsStmt t a true e1 e2 s → (sight s).adds ≡ [] → ((seen : List ℕ) → Covers seen e1 → Covers seen e2) → Looped t a e e3 f b [] (Some x) None s
+    do_looped e2 e3 ty x s l k v p g q cs =
         let k' = stays_extends e2 e3 k in
         let le : e1.loops ≤ e3.loops = (extends_then e1 e2 e3 l k').loops in
         record {
@@ -94,7 +94,7 @@ module _ (t : Text) (a : Answer) where
           body = λ cx i. g.typed cx (into_before t cx e2 e3 k' i);
           pragmas = λ cx i. h.pragmas cx (into_before t cx e1 e3 (extends_then e1 e2 e3 l k') i);
           header = hd x;
-          leaves = λ cx i ret r. g.leaves cx (into_before t cx e2 e3 k' i) ret r;
+          leaves = λ cx i ret r. part_leaves s (inside ret true) q (g.leaves cx (into_before t cx e2 e3 k' i) ret r);
           roots = λ seen c. h.sees seen c;
           firsts = λ seen c. refl;
           test_sees = λ seen c. v.seen seen (covers_stays seen e2 e3 k (cs seen (covers_begun t e e1 b h seen c)));
@@ -143,7 +143,7 @@ module _ (t : Text) (valued : Valued t) (begins : Begins t) (a : Answer) (loopin
           made = stmt span (Loop b.id form.While [] (Some v.made) None s.made b.pragmas);
           is_made = alone_is span form.While b v.made s.made _ _ v.is_made s.is_made;
           stmt = stmt_by t a looping e e3 span f (loop_form t a looping e e3 form.While b [] (Some v.made) None s.made
-              (while_looped t a form.While (λ x. refl) e e1 b m1.holds e2 e3 v.ty v.made s.made g.stays m3.extends v.value v.passes s.stmt));
+              (while_looped t a form.While (λ x. refl) e e1 b m1.holds e2 e3 v.ty v.made s.made g.stays m3.extends v.value v.passes s.stmt s.adds));
           adds = adds_by span f;
           covers = λ seen q. s.covers seen (covers_stays seen e1 e2 g.stays (covers_begun t e e1 b m1.holds seen q));
           spoken = (v.spoken, (s.spoken.0, tt));
@@ -181,7 +181,7 @@ module _ (t : Text) (valued : Valued t) (begins : Begins t) (a : Answer) (loopin
           made = stmt span (Loop b.id form.Do [] (Some v.made) None s.made b.pragmas);
           is_made = alone_is span form.Do b v.made s.made _ _ v.is_made s.is_made;
           stmt = stmt_by t a looping e e3 span f (loop_form t a looping e e3 form.Do b [] (Some v.made) None s.made
-              (do_looped t a form.Do (λ x. refl) e e1 b m1.holds e2 e3 v.ty v.made s.made m2.extends g.stays v.value v.passes s.stmt s.covers));
+              (do_looped t a form.Do (λ x. refl) e e1 b m1.holds e2 e3 v.ty v.made s.made m2.extends g.stays v.value v.passes s.stmt s.adds s.covers));
           adds = adds_by span f;
           covers = λ seen q. covers_stays seen e2 e3 g.stays (s.covers seen (covers_begun t e e1 b m1.holds seen q));
           spoken = (s.spoken.0, (v.spoken, tt));

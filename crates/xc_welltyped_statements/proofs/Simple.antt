@@ -6,9 +6,10 @@ use Rattle.xc_tree.specs.declared.ty.Ty.{Ty}
 use Rattle.xc_tree.specs.declared.expr.Expr.{Expr}
 use Rattle.xc_tree.specs.declared.stmt.Stmt.{Stmt}
 use Rattle.xc_tree.specs.declared.stmt.StmtKind.{Eval, Return, Break, Continue, roll-StmtKind}
-use Rattle.xc_tree.specs.declared.stmt.StmtKind.TheOpen.{StmtKind-F}
+use Rattle.xc_tree.specs.declared.stmt.Item.TheOpen.{StmtKind-F}
 use Rattle.xc_tree.specs.Lists.{allows}
 use Rattle.xc_tree.specs.Types.{is_void, is_plain, fits}
+use Rattle.xc_tree.specs.Statements.{sight}
 use Rattle.xc_tree.proofs.Lists.{and_left, and_right}
 use Rattle.xc_raw.specs.declared.tree.Raw.{Raw}
 use Rattle.xc_type_rule.specs.declared.found.Found.{Found}
@@ -41,7 +42,7 @@ use Rattle.xc_welltyped_claims.specs.Found.{Fine}
 use Rattle.xc_welltyped_claims.specs.Shaped.{rule_in, is_expr, none_of, one_at_most, Shaped, Spoken}
 use Rattle.xc_welltyped_claims.proofs.Env.{stays_extends, sound_behind, at_before, point}
 use Rattle.xc_welltyped_claims.proofs.Judges.{given_self, gives_then, made_self, made_of, clean_first, clean_second, clean_mapped}
-use Rattle.xc_welltyped_statements.specs.Stmts.{sight, IsStmt, AnswerFine, MakesFor}
+use Rattle.xc_welltyped_statements.specs.Stmts.{IsStmt, AnswerFine, MakesFor}
 use Rattle.xc_welltyped_statements.proofs.Folds.{Form, IsForm, stmt_by, adds_by}
 use Rattle.xc_welltyped_statements.proofs.Fresh.{fresh_none}
 use Rattle.xc_welltyped_statements.proofs.Values.{IsValue, has_value}

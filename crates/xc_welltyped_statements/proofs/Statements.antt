@@ -5,7 +5,8 @@ use Rattle.xc_text_place.specs.declared.Span.{Span}
 use Rattle.xc_tree.specs.declared.stmt.Stmt.{Stmt}
 use Rattle.xc_tree.specs.declared.expr.Expr.{Expr}
 use Rattle.xc_tree.specs.declared.stmt.StmtKind.{Eval, Break, Continue, roll-StmtKind}
-use Rattle.xc_tree.specs.declared.stmt.StmtKind.TheOpen.{StmtKind-F}
+use Rattle.xc_tree.specs.declared.stmt.Item.TheOpen.{StmtKind-F}
+use Rattle.xc_tree.specs.Statements as tree
 use Rattle.xc_tree.specs.Statements.{Leaving, clause_ok}
 use Rattle.xc_tree.proofs.Lists.{and_left, and_right}
 use Rattle.xc_raw.specs.declared.rule.Rule.{Rule}
@@ -31,7 +32,6 @@ use Rattle.xc_welltyped_claims.proofs.Env.{extends_self}
 use Rattle.xc_welltyped_claims.proofs.Judges.{made_self, clean_mapped}
 use Rattle.xc_welltyped_claims.proofs.Nodes.{by_parts, parts_shaped, level_shaped}
 use Rattle.xc_welltyped_claims.proofs.Strings.{spoken_of}
-use Rattle.xc_welltyped_statements.specs.Stmts as stmts
 use Rattle.xc_welltyped_statements.specs.Stmts.{MadeStmts, MadeBody, PartFine, MakesFor}
 use Rattle.xc_welltyped_statements.proofs.Passing.{statement_is}
 use Rattle.xc_welltyped_statements.proofs.Folds.{leaving_by}
@@ -215,7 +215,7 @@ module _ (t : Text) (lexed : IsLexed t) (valued : Valued t) (role_fine : (node :
       stmts = m.stmts;
       single = λ k. absurd (let no : false ≡ true = sym x ∙ subst (λ r. IsTrue (is_stmt r || is_sub r)) q k in cc);
       none = λ k. absurd (let no : false ≡ true = sym y ∙ subst (λ r. IsTrue (is_pragma r)) q k in cc);
-      clause = λ k. clause_all (map stmts.leaving m.made) m.declare;
+      clause = λ k. clause_all (map tree.leaving m.made) m.declare;
       spoken = s;
     }
 
@@ -265,15 +265,15 @@ module _ (t : Text) (lexed : IsLexed t) (valued : Valued t) (role_fine : (node :
           };
         }
 
-    eval_leaves : (span : Span) (o : Option Expr) (s : Stmt) → eval_made span o ≡ Some s → IsTrue (stmts.leaving s).evaluates
+    eval_leaves : (span : Span) (o : Option Expr) (s : Stmt) → eval_made span o ≡ Some s → IsTrue (tree.leaving s).evaluates
     unfolding eval_made roll-StmtKind denote.Hole.Carrier.roll
     eval_leaves span None s h = absurd cc
     eval_leaves span (Some x) s h =
         let same : stmt span (Eval x) ≡ s = cc in
-        subst (λ s. IsTrue (stmts.leaving s).evaluates) same (ap (λ (l : Leaving). l.evaluates) (leaving_by span (StmtKind-F.Eval x)))
+        subst (λ s. IsTrue (tree.leaving s).evaluates) same (ap (λ (l : Leaving). l.evaluates) (leaving_by span (StmtKind-F.Eval x)))
 
-    clause_one : (s : Stmt) → IsTrue (stmts.leaving s).evaluates → IsTrue (clause_ok (map stmts.leaving (s ∷ [])))
-    clause_one s h = or_right (stmts.leaving s).declares _ h
+    clause_one : (s : Stmt) → IsTrue (tree.leaving s).evaluates → IsTrue (clause_ok (map tree.leaving (s ∷ [])))
+    clause_one s h = or_right (tree.leaving s).declares _ h
 
     clause_list : (n : Raw) (qs : List Raw) → rule_in n ≡ rule.Clause → Shaped t n → (Each (Spoken t) qs → Spoken t n) → Each (PartIs t) qs → IsTrue (one_at_most is_expr qs) → MakesStmts n (clause_by t (span_in t n) qs)
     unfolding clause_by eval_by one
@@ -329,7 +329,7 @@ module _ (t : Text) (lexed : IsLexed t) (valued : Valued t) (role_fine : (node :
         let l = block_level t n (rule_in n) (out-Raw n).parts x (level_shaped t n h) in
         let m = enclosed_fine t a looping (span_in t n) (out-Raw n).parts ps l.0 e r w c in
         let s = m.holds in
-        record { ready = m.ready; extends = m.extends; file = m.file; holds = record { made = s.made; known = s.is_made; stmt = s.stmt; spoken = spoken_of t lexed n h l.1 s.spoken } }
+        record { ready = m.ready; extends = m.extends; file = m.file; holds = record { made = s.made; known = s.is_made; stmt = s.stmt; braces = s.braces; spoken = spoken_of t lexed n h l.1 s.spoken } }
 
   part_is : (ns : List Raw) → Each (λ n. Shaped t n → PartFine t n (statement t n)) ns → Each (Shaped t) ns → Each (PartIs t) ns
   part_is [] f h = tt

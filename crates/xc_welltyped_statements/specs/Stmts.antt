@@ -3,11 +3,10 @@ use Rattle.std.specs.Prelude.{◌≡◌, ℕ, ◌+◌, Bool, ◌||◌, IsTrue, L
 use Rattle.xc_text_place.specs.declared.Span.{Span}
 use Rattle.xc_tree.specs.declared.ty.Ty.{Ty}
 use Rattle.xc_tree.specs.declared.stmt.Stmt.{Stmt}
-use Rattle.xc_tree.specs.declared.stmt.StmtKind.TheFolds.{fold-Stmt}
 use Rattle.xc_tree.specs.Lists.{joined, allows}
 use Rattle.xc_tree.specs.Walk.{loop_ids, declared}
 use Rattle.xc_tree.specs.Typed.{Context}
-use Rattle.xc_tree.specs.Statements.{Inside, Leaving, leave_step, clause_ok, leaves_ok, Sight, sight_step, sees_all, added, sees_ok, stmt_ok, pragmas_ok, sees_pragmas}
+use Rattle.xc_tree.specs.Statements.{Inside, leaving, clause_ok, leaves_ok, sight, sees_all, added, sees_ok, stmt_ok, pragmas_ok, sees_pragmas}
 use Rattle.xc_raw.specs.declared.tree.Raw.{Raw}
 use Rattle.xc_type_rule.specs.declared.found.Known.TheVariants as known
 use Rattle.xc_welltyped.specs.Sound.{Point, known_ok}
@@ -27,14 +26,9 @@ use Rattle.xc_welltyped_claims.specs.Env.{Ready, Into, At, Covers}
 use Rattle.xc_welltyped_claims.specs.Judges.{Clean, Passing, Made}
 use Rattle.xc_welltyped_claims.specs.Shaped.{rule_in, is_pragma, is_block, is_block_item, is_sub, is_first, Spoken}
 
-abbrev pub sight : Stmt → Sight
-sight s = fold-Stmt Sight Sight sight_step (λ s. s.kind) s
-
-abbrev pub leaving : Stmt → Leaving
-leaving s = fold-Stmt Leaving Leaving leave_step (λ s. s.kind) s
-
+-- a loop is all that a `break` leaves in a text
 abbrev pub inside : Ty → Bool → Inside
-inside ret looping = record { ret = ret; looping = looping }
+inside ret looping = record { ret = ret; breaking = looping; looping = looping }
 
 -- in each program what a `return` gives has a type that an object may have, or none
 abbrev pub answer_ok : Point → Answer → Bool
@@ -81,6 +75,7 @@ pub record MadeBody (t : Text) (node : Raw) (a : Answer) (looping : Bool) (e e' 
   pub made : Stmt
   pub known : o ≡ Some made
   pub stmt : IsStmt t a looping e e' made
+  pub braces : IsTrue (leaving made).braces
   pub spoken : Spoken t node
 
 pub record PartFine (t : Text) (node : Raw) (p : Part) : Type 0 where

@@ -11,8 +11,8 @@ use Rattle.xc_tree.specs.Lists.{allows, distinct, indices}
 use Rattle.xc_tree.specs.Types.{is_void, is_plain, is_object}
 use Rattle.xc_tree.specs.Typed.{Context, context}
 use Rattle.xc_tree.specs.Walk.{loop_ids, declared}
-use Rattle.xc_tree.specs.Statements.{stmt_ok, leaves_ok, sees_ok}
-use Rattle.xc_tree.specs.Valid.{local_ok, param_ok, ret_ok, at_entry, func_tests, func_ok}
+use Rattle.xc_tree.specs.Statements.{leaving, body_ok, stmt_ok, sees_ok}
+use Rattle.xc_tree.specs.Valid.{local_ok, param_ok, ret_ok, func_tests, func_ok}
 use Rattle.xc_tree.proofs.Lists.{and_left, and_right, and_both}
 use Rattle.xc_raw.specs.declared.tree.Raw.{Raw}
 use Rattle.xc_type_rule.specs.declared.found.Known.TheVariants as known
@@ -25,7 +25,7 @@ use Rattle.xc_type_scopes.specs.Env.{after_function}
 use Rattle.xc_type_scopes.specs.Judge.{Judge}
 use Rattle.xc_type_lowering.specs.Lowered.{lowered_stmt}
 use Rattle.xc_type_lowering.specs.Kept.{with_addresses, values_plain}
-use Rattle.xc_type_lowering.proofs.Folded.{leaves_kept, sees_kept, ids_kept, declared_kept}
+use Rattle.xc_type_lowering.proofs.Folded.{leaving_kept, sees_kept, ids_kept, declared_kept}
 use Rattle.xc_type_lowering.proofs.Statements.{stmt_typed}
 use Rattle.xc_type_expressions.specs.declared.text.Text.{Text}
 use Rattle.xc_type_expressions.specs.Types.{name_fault_unless}
@@ -98,7 +98,7 @@ fresh_indices (suc n) = fresh_both 0 n (suc n) (indices n) (n ∷ []) (omega ari
 
 -- `e` stands before the block and `e'` behind it
 module _ (t : Text) (b : Bodies) (s : FileScope) (e : Env) (h : Head) (d : IsHead t b s e h) (e' : Env) (ready : Ready e') (x : Extends e e')
-    (made : Stmt) (is : IsStmt t (answer.Function h.ret) false e e' made) where
+    (made : Stmt) (is : IsStmt t (answer.Function h.ret) false e e' made) (braces : IsTrue (leaving made).braces) where
   abbrev func : Func
   func = record { name = h.at; params = length e.locals; locals = locals_of e'.locals e'.addressed; ret = d.ret; body = lowered_stmt e'.addressed made }
 
@@ -142,8 +142,8 @@ module _ (t : Text) (b : Bodies) (s : FileScope) (e : Env) (h : Head) (d : IsHea
     body_typed : IsTrue (stmt_ok inner func.body)
     body_typed = stmt_typed e'.addressed made inner (sym (marks_same e'.locals e'.addressed many)) plain (is.used e'.addressed (set_self e'.addressed)) (is.typed (with_addresses inner) into)
 
-    body_leaves : IsTrue (leaves_ok func.body (at_entry d.ret))
-    body_leaves = subst IsTrue (sym (leaves_kept e'.addressed made (at_entry d.ret))) (is.leaves (with_addresses inner) into d.ret d.gives)
+    body_leaves : IsTrue (body_ok (leaving func.body) d.ret)
+    body_leaves = subst (λ l. IsTrue (body_ok l d.ret)) (sym (leaving_kept e'.addressed made)) (and_both (leaving made).braces _ braces (is.leaves (with_addresses inner) into d.ret d.gives))
 
     body_sees : IsTrue (sees_ok func.body (indices func.params))
     body_sees = subst IsTrue (sym (sees_kept e'.addressed made (indices func.params))) (is.sees (indices func.params) d.covers)
@@ -216,4 +216,4 @@ module _ (t : Text) (lexed : IsLexed t) where
       let gives = answer_fine t e d.ready.good h.ret d.ret d.gives d.given in
       let clean : Clean j e = record { faultless = none_right (name_fault_unless (is_first b h.name n) h.at) (j e).faults c.faultless; within = c.within } in
       let m = (statement_fine t lexed block shaped).body is a false e d.ready gives clean in
-      (body_of t b s e h d (j e).env m.ready m.extends m.holds.made m.holds.stmt m.file (j e).part m.holds.known, m.holds.spoken)
+      (body_of t b s e h d (j e).env m.ready m.extends m.holds.made m.holds.stmt m.holds.braces m.file (j e).part m.holds.known, m.holds.spoken)

@@ -3,7 +3,7 @@
 ghost use Rattle.std.specs.Prelude.{◌≡◌, IfOk};
 
 use crate::copy::expr::copy_expr;
-use crate::{Capture, Expr, Pragmas, Stmt, StmtKind};
+use crate::{Capture, Expr, Item, Pragmas, Stmt, StmtKind};
 use sqlite_items::{Boxed, Items};
 use std::alloc::{AllocError, Global};
 use xc_hold::{both, kept};
@@ -118,6 +118,37 @@ fn copy_block(alloc: Global, list: &Items<Stmt>) -> Result<Items<Stmt>, AllocErr
 }
 
 #[cycle(copy_statement)]
+fn copy_item(alloc: Global, item: &Item) -> Result<Item, AllocError>
+    ensures { IfOk result (λ r. r ≡ item.now) }
+{
+    match item {
+        Item::At(word) => Ok(Item::At(*word)),
+        Item::Other => Ok(Item::Other),
+        Item::Do(s) => Ok(Item::Do(copy_stmt(alloc, s)?)),
+    }
+}
+
+#[cycle(copy_statement)]
+fn copy_items(alloc: Global, list: &Items<Item>) -> Result<Items<Item>, AllocError>
+    ensures { IfOk result (λ r. r ≡ list.now) }
+{
+    let mut all = Items::new(alloc);
+    for item in list.as_slice() {
+        all.push(copy_item(alloc, item)?)?;
+    }
+    Ok(all)
+}
+
+// A copy of a `switch`.
+#[cycle(copy_statement)]
+fn copy_switch(alloc: Global, items: &Items<Item>, value: &Expr) -> Result<StmtKind, AllocError>
+    ensures { IfOk result (λ r. r ≡ StmtKind.Switch value.now items.now) }
+{
+    let (items, value) = both(copy_items(alloc, items), copy_expr(alloc, value))?;
+    Ok(StmtKind::Switch { value, items })
+}
+
+#[cycle(copy_statement)]
 fn copy_stmt_kind(alloc: Global, kind: &StmtKind) -> Result<StmtKind, AllocError>
     ensures { IfOk result (λ r. r ≡ kind.now) }
 {
@@ -180,6 +211,7 @@ fn copy_stmt_kind(alloc: Global, kind: &StmtKind) -> Result<StmtKind, AllocError
                 pragmas,
             })
         }
+        StmtKind::Switch { value, items } => copy_switch(alloc, items, value),
         StmtKind::Return(e) => Ok(StmtKind::Return(copy_maybe(alloc, e)?)),
         StmtKind::Break => Ok(StmtKind::Break),
         StmtKind::Continue => Ok(StmtKind::Continue),

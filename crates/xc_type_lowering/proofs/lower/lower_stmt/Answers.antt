@@ -1,12 +1,12 @@
 use Rattle.xc_type_lowering.proofs.lower.lower_stmt.Goals as goal
-use Rattle.xc_type_lowering.proofs.Folded.{leaves_kept, sees_kept, ids_kept, declared_kept}
+use Rattle.xc_type_lowering.proofs.Folded.{leaving_kept, sees_kept, ids_kept, declared_kept}
 use Rattle.xc_type_lowering.proofs.Statements.{stmt_typed}
 
 pub returns-clause-typed : goal.returns-clause-typed
 returns-clause-typed c = stmt_typed c.args.addressed.now c.args.s.now
 
 pub returns-clause-leaves : goal.returns-clause-leaves
-returns-clause-leaves c = leaves_kept c.args.addressed.now c.args.s.now
+returns-clause-leaves c = leaving_kept c.args.addressed.now c.args.s.now
 
 pub returns-clause-sees : goal.returns-clause-sees
 returns-clause-sees c = sees_kept c.args.addressed.now c.args.s.now
