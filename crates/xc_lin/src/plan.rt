@@ -8,7 +8,7 @@ use xc_tree::{NotNormal, Schedule};
 #[derive(Clone, Copy)]
 pub struct Dealing {
     pub schedule: Schedule,
-    /// From 1 to 1,024.
+    /// From 1 to 8,192.
     pub streams: u32,
 }
 

@@ -112,9 +112,9 @@ least_streams : Parts (typed (repeats 0 (pragmas 1) (does Break)))
 unfolding rule are_values shapes_within is_mixed taken_from pragmas_ok ascending
 least_streams = search (rules, opened_all)
 
--- the streams that are asked for, at most 1,024
-most_streams : Parts (typed (repeats 0 (pragmas 1024) (does Break)))
-    (typed (repeats 0 (pragmas 1025) (does Break)))
+-- the streams that are asked for, at most 8,192
+most_streams : Parts (typed (repeats 0 (pragmas 8192) (does Break)))
+    (typed (repeats 0 (pragmas 8193) (does Break)))
 unfolding rule are_values shapes_within is_mixed taken_from pragmas_ok ascending
 most_streams = search (rules, opened_all)
 

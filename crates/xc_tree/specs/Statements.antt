@@ -62,9 +62,9 @@ is_pointer_root (root.GlobalPointer g) = true
 is_pointer_root (root.LocalPointer x) = true
 is_pointer_root _ = false
 
--- from 1 to 1,024 streams, and roots that are there; `noalias` names pointers
+-- from 1 to 8,192 streams, and roots that are there; `noalias` names pointers
 unfoldable pub pragmas_ok : Context → Pragmas → Bool
-pragmas_ok cx p = nat_le 1 p.streams && (nat_le p.streams 1024 && (every (map (root_ok cx) p.nodep)
+pragmas_ok cx p = nat_le 1 p.streams && (nat_le p.streams 8192 && (every (map (root_ok cx) p.nodep)
     && every (map (λ r. is_pointer_root r && root_ok cx r) p.noalias)))
 
 -- an item of a `switch`: the words of its `case`, how many `default` it is, and whether its statement is well typed

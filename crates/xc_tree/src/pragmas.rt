@@ -81,7 +81,7 @@ pub struct Pragmas {
     pub nodep: Items<Root>,
     /// These pointers are in no segment of another root of the loop.
     pub noalias: Items<Root>,
-    /// The streams that are asked for, from 1 to 1,024.
+    /// The streams that are asked for, from 1 to 8,192.
     pub streams: u32,
     pub schedule: Schedule,
     pub given: Items<(Span, Marks)>,

@@ -174,9 +174,9 @@ module _ (cx : Context) (plain : IsTrue (values_plain cx)) where
   unfolding pragmas_ok
   pragmas_kept p h =
       let most = and_right (nat_le 1 p.streams) _ h in
-      let rest = and_right (nat_le p.streams 1024) _ most in
+      let rest = and_right (nat_le p.streams 8192) _ most in
       and_both (nat_le 1 p.streams) _ (and_left _ _ h)
-      (and_both (nat_le p.streams 1024) _ (and_left _ _ most)
+      (and_both (nat_le p.streams 8192) _ (and_left _ _ most)
       (and_both (every (map (root_ok cx) p.nodep)) _ (roots_kept p.nodep (and_left _ _ rest)) (pointers_kept p.noalias (and_right (every (map (root_ok all) p.nodep)) _ rest))))
 
   -- ---- statements

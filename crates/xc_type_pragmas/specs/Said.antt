@@ -33,7 +33,7 @@ unfoldable pub by_three : List ℕ → List ℕ → List ℕ → Span → Pragma
 by_three a b c name =
     if bytes_eq a (codes "assert") && bytes_eq b (codes "nodep") then Nodep name
     else if bytes_eq a (codes "assert") && bytes_eq b (codes "noalias") then Noalias name
-    else if bytes_eq a (codes "use") && bytes_eq c (codes "streams") then streams_of (number_of 1025 b)
+    else if bytes_eq a (codes "use") && bytes_eq c (codes "streams") then streams_of (number_of 8193 b)
     else if bytes_eq a (codes "block") && (bytes_eq b (codes "dynamic") && bytes_eq c (codes "schedule")) then Dealt BlockDynamic
     else Other
 

@@ -21,7 +21,7 @@ pub enum Pragma {
     Noalias(Span),
     /// `loop serial`
     Serial,
-    /// `use K streams`, K from 1 to 1,024
+    /// `use K streams`, K from 1 to 8,192
     Streams(u32),
     /// `block schedule` and the like
     Dealt(Schedule),
@@ -31,9 +31,9 @@ pub enum Pragma {
 
 // The streams that a word asks for: a decimal number with no zero in front.
 fn streams_of(word: &[u8]) -> Pragma
-    ensures { result ≡ streams_of (number_of 1025 word.now) }
+    ensures { result ≡ streams_of (number_of 8193 word.now) }
 {
-    match number_below(word, 1025) {
+    match number_below(word, 8193) {
         None => Pragma::Other,
         Some(k) => {
             if k == 0 {

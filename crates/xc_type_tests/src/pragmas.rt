@@ -26,8 +26,8 @@ fn words_say_what_a_pragma_is(rt: HostRuntime) {
             Pragma::Noalias(Span { start: 27, end: 28 }),
         ),
         (
-            b"#/* */pragma mta/* a\n b */use 1024 streams",
-            Pragma::Streams(1024),
+            b"#/* */pragma mta/* a\n b */use 8192 streams",
+            Pragma::Streams(8192),
         ),
         (
             b"#pragma mta block schedule",
@@ -53,7 +53,7 @@ fn words_say_what_a_pragma_is(rt: HostRuntime) {
 fn other_texts_say_nothing(rt: HostRuntime) {
     let rows: [(&[u8], Pragma); 8] = [
         (b"#pragma mta use 0 streams", Pragma::Other),
-        (b"#pragma mta use 1025 streams", Pragma::Other),
+        (b"#pragma mta use 8193 streams", Pragma::Other),
         (b"#pragma mta use 08 streams", Pragma::Other),
         (b"#pragma mta assert nodep", Pragma::Other),
         (b"#pragma mta assert nodep a b", Pragma::Other),

@@ -49,7 +49,7 @@ use Rattle.xc_welltyped_structs.proofs.Lists.{every_of}
 -- streams -------------------------------------------------------------------------
 
 abbrev fair : Pragma → Bool
-fair (Streams k) = nat_le 1 k && nat_le k 1024
+fair (Streams k) = nat_le 1 k && nat_le k 8192
 fair _ = true
 
 abbrev Fair : Pragma → Type 0
@@ -59,23 +59,23 @@ either_fair : (b : Bool) (p q : Pragma) → Fair p → Fair q → Fair (if b the
 either_fair true p q h k = h
 either_fair false p q h k = k
 
-some_fair : (k : ℕ) → k < 1025 → Fair (streams_of (Some k))
+some_fair : (k : ℕ) → k < 8193 → Fair (streams_of (Some k))
 some_fair k lt = by (k == 0) refl
   where
     by : (b : Bool) → (k == 0) ≡ b → Fair (if b then Other else Streams k)
     by true e = refl
-    by false e = and_both (nat_le 1 k) _ (le-leb 1 k (above k (eqb-false k 0 e))) (le-leb k 1024 (omega (arith, lt)))
+    by false e = and_both (nat_le 1 k) _ (le-leb 1 k (above k (eqb-false k 0 e))) (le-leb k 8192 (omega (arith, lt)))
       where
         above : (n : ℕ) → (n ≡ 0 → ⊥) → 1 ≤ n
         above zero h = absurd (h refl)
         above (suc n) h = omega arith
 
-number_fair : (word : List ℕ) → Fair (streams_of (number_of 1025 word))
+number_fair : (word : List ℕ) → Fair (streams_of (number_of 8193 word))
 unfolding number_of
-number_fair word = by (is_plain word) (nat_lt (digits_value 10 word) 1025) refl
+number_fair word = by (is_plain word) (nat_lt (digits_value 10 word) 8193) refl
   where
-    by : (b c : Bool) → nat_lt (digits_value 10 word) 1025 ≡ c → Fair (streams_of (if b && c then Some (digits_value 10 word) else None))
-    by true true e = some_fair (digits_value 10 word) (ltb-true (digits_value 10 word) 1025 e)
+    by : (b c : Bool) → nat_lt (digits_value 10 word) 8193 ≡ c → Fair (streams_of (if b && c then Some (digits_value 10 word) else None))
+    by true true e = some_fair (digits_value 10 word) (ltb-true (digits_value 10 word) 8193 e)
     by true false e = refl
     by false c e = refl
 
@@ -103,7 +103,7 @@ three_by false false false false at x h = refl
 three_fair : (a b c : List ℕ) (at : Span) → Fair (by_three a b c at)
 unfolding by_three
 three_fair a b c at = three_by (bytes_eq a (codes "assert") && bytes_eq b (codes "nodep")) (bytes_eq a (codes "assert") && bytes_eq b (codes "noalias")) (bytes_eq a (codes "use") && bytes_eq c (codes "streams"))
-    (bytes_eq a (codes "block") && (bytes_eq b (codes "dynamic") && bytes_eq c (codes "schedule"))) at (streams_of (number_of 1025 b)) (number_fair b)
+    (bytes_eq a (codes "block") && (bytes_eq b (codes "dynamic") && bytes_eq c (codes "schedule"))) at (streams_of (number_of 8193 b)) (number_fair b)
 
 words_fair : (source : List ℕ) (ws : List Span) → Fair (by_words source ws)
 words_fair source [] = refl
@@ -121,7 +121,7 @@ pragma_fair : (source : List ℕ) (line : Span) → Fair (pragma_of source line)
 pragma_fair source line = line_fair source (words_from (take line.end source) (record { mode = Text; at = line.start + 1 }))
 
 abbrev InRange : ℕ → Type 0
-InRange n = IsTrue (nat_le 1 n && nat_le n 1024)
+InRange n = IsTrue (nat_le 1 n && nat_le n 8192)
 
 stream_fair : (n : ℕ) (p : Pragma) → InRange n → Fair p → InRange (streams_by n p)
 stream_fair n (Streams k) h f = f
@@ -253,7 +253,7 @@ module _ (t : Source) (cx : Context) (e : Env) (g : Good e) (i : Into t cx e) wh
   said_typed =
       let all = said t e in
       let n = streams_fair t e 8 e.before refl in
-      and_both (nat_le 1 (streams_after 8 all)) _ (and_left _ _ n) (and_both (nat_le (streams_after 8 all) 1024) _ (and_right (nat_le 1 (streams_after 8 all)) _ n)
+      and_both (nat_le 1 (streams_after 8 all)) _ (and_left _ _ n) (and_both (nat_le (streams_after 8 all) 8192) _ (and_right (nat_le 1 (streams_after 8 all)) _ n)
       (and_both (every (map (root_ok cx) (nodep_of all))) _ (every_of (root_ok cx) (nodep_of all) (nodeps Root_ok Pointer_ok t e found_named))
       (every_of (λ r. is_pointer_root r && root_ok cx r) (noalias_of all) (noaliases Root_ok Pointer_ok t e found_named))))
 
