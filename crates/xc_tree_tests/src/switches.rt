@@ -197,7 +197,7 @@ fn a_switch_acts_by_its_value_first(rt: HostRuntime) -> Result<(), Fail> {
     let s = chooses(alloc, set(alloc, 1, 2), Chosen::Set)?;
     let effects = effects_of(alloc, &s);
     drop(s);
-    let in_order = effects?.as_slice() == [Effect::Set(1), Effect::Set(0)];
+    let in_order = effects?.as_slice() == [Effect::Set(1), Effect::Set(0)].as_slice();
     assert!(rt; in_order);
     Ok(())
 }
