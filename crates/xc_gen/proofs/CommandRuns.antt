@@ -83,6 +83,7 @@ module _ (n cells : ℕ) (code : Code) (few : n ≤ most_globals) (short : cells
     pub says : (rs : List Reply) (t : List Action) → m (point (replies_of acts ++ rs) t) ≡ Trapped (t ++ acts)
     pub paid : steps ≤ k * ticks_of acts
     pub smallness : P place
+    pub printed : place.world.out ≡ world.out
     pub way : Way code P steps (at pc r w f) place
     pub fall : Falls code kind place
 
@@ -128,6 +129,7 @@ module _ (n cells : ℕ) (code : Code) (few : n ≤ most_globals) (short : cells
     says = λ rs t. ap (λ x. with_value x (λ v p. Done p)) (h.source.says rs (t ++ tick ∷ [])) ∙ ap Trapped (joined t h.source.acts);
     paid = one_pays h.steps k (ticks_of h.source.acts) (omega (arith, h.bound));
     smallness = h.smallness;
+    printed = h.printed;
     way = h.way;
     fall = h.fall;
   }))
@@ -157,6 +159,7 @@ module _ (n cells : ℕ) (code : Code) (few : n ≤ most_globals) (short : cells
     says = λ rs t. ap (λ x. with_value x Returned) (h.source.says rs (t ++ tick ∷ [])) ∙ ap Trapped (joined t h.source.acts);
     paid = one_pays h.steps k (ticks_of h.source.acts) (omega (arith, h.bound));
     smallness = h.smallness;
+    printed = h.printed;
     way = h.way;
     fall = h.fall;
   }))
@@ -200,6 +203,7 @@ module _ (n cells : ℕ) (code : Code) (few : n ≤ most_globals) (short : cells
     says = λ rs t. h.says rs (t ++ tick ∷ []) ∙ ap Trapped (joined t h.acts);
     paid = more_pays h.steps k (ticks_of h.acts) h.paid;
     smallness = h.smallness;
+    printed = h.printed;
     way = h.way;
     fall = h.fall;
   }))
@@ -224,7 +228,7 @@ module _ (n cells : ℕ) (code : Code) (few : n ≤ most_globals) (short : cells
       → ((r1 : Regs) (w1 : World) (f1 : ℕ → ℕ) → Sound n cells w1 → r1 23 ≡ fp → Runs k go pc1 r1 w1 f1 pc2) → Runs k (λ p. then_do (m p) go) pc r w f pc2
   sequence k pc pc1 pc2 m go r w f (inr (inl h)) next = inr (inl (record { acts = h.acts; world = h.world; v = h.v; steps = h.steps; chain = h.chain; says = λ rs t. ap (λ x. then_do x go) (h.says rs t); sound = h.sound; paid = h.paid; way = h.way }))
   sequence k pc pc1 pc2 m go r w f (inr (inr h)) next =
-      inr (inr (record { acts = h.acts; world = h.world; front = h.front; request = h.request; last = h.last; steps = h.steps; place = h.place; kind = h.kind; chain = h.chain; says = λ rs t. ap (λ x. then_do x go) (h.says rs t); paid = h.paid; smallness = h.smallness; way = h.way; fall = h.fall }))
+      inr (inr (record { acts = h.acts; world = h.world; front = h.front; request = h.request; last = h.last; steps = h.steps; place = h.place; kind = h.kind; chain = h.chain; says = λ rs t. ap (λ x. then_do x go) (h.says rs t); paid = h.paid; smallness = h.smallness; printed = h.printed; way = h.way; fall = h.fall }))
   sequence k pc pc1 pc2 m go r w f (inl h) next = second (next h.regs h.world h.words h.sound h.pointer)
     where
       first_says : (l : List Action) (rs : List Reply) (t : List Action) → then_do (m (point (replies_of (h.acts ++ l) ++ rs) t)) go ≡ go (point (replies_of l ++ rs) (t ++ h.acts))
@@ -268,6 +272,7 @@ module _ (n cells : ℕ) (code : Code) (few : n ≤ most_globals) (short : cells
         says = λ rs t. first_says g.acts rs t ∙ g.says rs (t ++ h.acts) ∙ ap Trapped (append_assoc t h.acts g.acts);
         paid = both_pay h.steps g.steps k (ticks_of h.acts) (ticks_of g.acts) (ticks_of (h.acts ++ g.acts)) h.paid g.paid (ticks_on h.acts g.acts);
         smallness = g.smallness;
+        printed = g.printed;
         way = way_on code P h.steps g.steps (at pc r w f) (at pc1 h.regs h.world h.words) g.place h.way g.way;
         fall = g.fall;
       }))

@@ -107,10 +107,10 @@ module _ (n : ℕ) where
         ∙ g.says rs (t ++ f.acts) ∙ ap (λ l. Gives u (point rs l)) (append_assoc t f.acts g.acts);
   }
 
-  pub died_first : (m : Point → Value) (go : ℕ → Point → Value) (w : World) → Died m w → Died (λ p. then_value (m p) go) w
+  unfoldable pub died_first : (m : Point → Value) (go : ℕ → Point → Value) (w : World) → Died m w → Died (λ p. then_value (m p) go) w
   died_first m go w f = record { acts = f.acts; world = f.world; chain = f.chain; front = f.front; request = f.request; last = f.last; says = λ rs t. ap (λ x. then_value x go) (f.says rs t) }
 
-  pub died_on : (m : Point → Value) (go : ℕ → Point → Value) (w w1 : World) (v : ℕ) → Given m w v w1 → Died (go v) w1 → Died (λ p. then_value (m p) go) w
+  unfoldable pub died_on : (m : Point → Value) (go : ℕ → Point → Value) (w w1 : World) (v : ℕ) → Given m w v w1 → Died (go v) w1 → Died (λ p. then_value (m p) go) w
   died_on m go w w1 v f g = record {
     acts = f.acts ++ g.acts;
     world = g.world;

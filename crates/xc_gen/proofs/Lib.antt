@@ -1,5 +1,6 @@
 pub mod Emitting
 pub mod Ways
+pub mod Grows
 pub mod Deeds
 pub mod Places
 pub mod Paths

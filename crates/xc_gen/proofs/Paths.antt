@@ -77,6 +77,7 @@ module _ (n cells : ℕ) (code : Code) (few : n ≤ most_globals) (short : cells
     pub source : Died n m w
     pub bound : steps ≤ b
     pub smallness : P last
+    pub printed : last.world.out ≡ source.world.out
     pub way : Way code P steps (at pc r w f) last
     pub fall : Falls code kind last
 
@@ -87,7 +88,8 @@ module _ (n cells : ℕ) (code : Code) (few : n ≤ most_globals) (short : cells
 
   pub bind : (b b' c d d' : ℕ) (m : Point → Value) (go : ℕ → Point → Value) (pc pc1 pc2 : ℕ) (r : Regs) (w : World) (f : ℕ → ℕ) → d ≤ d' → b + b' ≤ c → Evals b d' m pc r w f pc1
       → ((v : ℕ) (r1 : Regs) (w1 : World) (f1 : ℕ → ℕ) → Sound n cells w1 → r1 16 ≡ v → r1 23 ≡ fp → ((i : ℕ) → i < d' → f1 i ≡ f i) → Evals b' d (go v) pc1 r1 w1 f1 pc2) → Evals c d (λ p. then_value (m p) go) pc r w f pc2
-  bind b b' c d d' m go pc pc1 pc2 r w f dd le (inr h) next = inr (record { steps = h.steps; last = h.last; kind = h.kind; source = died_first n m go w h.source; bound = omega (arith, h.bound); smallness = h.smallness; way = h.way; fall = h.fall })
+    unfolding died_on died_first
+  bind b b' c d d' m go pc pc1 pc2 r w f dd le (inr h) next = inr (record { steps = h.steps; last = h.last; kind = h.kind; source = died_first n m go w h.source; bound = omega (arith, h.bound); smallness = h.smallness; printed = h.printed; way = h.way; fall = h.fall })
   bind b b' c d d' m go pc pc1 pc2 r w f dd le (inl h) next = second (next h.v h.regs h.world h.words h.sound h.value h.pointer h.low)
     where
       second : Evals b' d (go h.v) pc1 h.regs h.world h.words pc2 → Evals c d (λ p. then_value (m p) go) pc r w f pc2
@@ -112,6 +114,7 @@ module _ (n cells : ℕ) (code : Code) (few : n ≤ most_globals) (short : cells
         source = died_on n m go w h.world h.v h.source k.source;
         bound = omega (arith, h.bound, k.bound);
         smallness = k.smallness;
+        printed = k.printed;
         way = way_on code P h.steps k.steps (at pc r w f) (at pc1 h.regs h.world h.words) k.last h.way k.way;
         fall = k.fall;
       })
@@ -139,6 +142,7 @@ module _ (n cells : ℕ) (code : Code) (few : n ≤ most_globals) (short : cells
     source = h.source;
     bound = omega (arith, h.bound);
     smallness = h.smallness;
+    printed = h.printed;
     way = way_on code P k h.steps (at pc r w f) (at pc1 r1 w f1) h.last way h.way;
     fall = h.fall;
   })
@@ -226,6 +230,7 @@ module _ (n cells : ℕ) (code : Code) (few : n ≤ most_globals) (short : cells
         source = record { acts = act_of Stop Dead ∷ []; world = w; chain = (s.none (suc n) (omega arith), w, refl, refl); front = []; request = Stop; last = refl; says = λ rs t. refl };
         bound = omega arith;
         smallness = small n cells pc r w f s;
+        printed = refl;
         way = refl;
         fall = falls code (instr.Divide o 16 17 16) trap.Divide pc r (framed n cells w f) (suc n) there (ap (λ x. sets trap.Divide 16 x (suc pc) r) e);
       })

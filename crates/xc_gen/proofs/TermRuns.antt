@@ -206,7 +206,7 @@ module _ (n cells : ℕ) (code : Code) (few : n ≤ most_globals) (short : cells
     bound = omega (arith, h.bound);
     way = way_on code P h.steps 1 (at pc r w f) (at pc1 h.regs h.world h.words) (at pc2 h.regs h.world h.words) h.way (step h.regs h.world h.words h.sound);
   })
-  followed b d m pc pc1 pc2 r w f step (inr h) = inr (record { steps = h.steps; last = h.last; kind = h.kind; source = h.source; bound = omega (arith, h.bound); smallness = h.smallness; way = h.way; fall = h.fall })
+  followed b d m pc pc1 pc2 r w f step (inr h) = inr (record { steps = h.steps; last = h.last; kind = h.kind; source = h.source; bound = omega (arith, h.bound); smallness = h.smallness; printed = h.printed; way = h.way; fall = h.fall })
 
   -- what there is to know of the second operand
   abbrev Second : ℕ → ℕ → (Point → Value) → ℕ → ℕ → Type 0

@@ -25,6 +25,10 @@ way_on code P (suc a) b c d e f g =
     let rest : Way code P (suc (a + b)) c e = (f.0, f.1, f.2, way_on code P a b f.1 d e f.3 g) in
     subst (λ n. Way code P n c e) z rest
 
+-- so many steps are left
+abbrev pub Rest : Code → (Conf → Type 0) → Conf → Conf → Type 0
+Rest code P c d = (k : ℕ) × Way code P k c d
+
 -- the next step traps, whatever the number of the other slots
 abbrev pub Falls : Code → TrapKind → Conf → Type 0
 Falls code kind c = (others : ℕ) → step code 0 (state_of others c) ≡ machine.Trap kind
@@ -58,12 +62,12 @@ no_step code others c quit = ap (λ x. in_slot code (Some x) 0 (x ∷ replicate 
 
 -- what is known of a run: where it has got to, that it has come to the trap, or that it is none
 abbrev pub IsWithin : Code → (Conf → Type 0) → ℕ → ℕ → Conf → List ℕ → Ran → Type 0
-IsWithin code P others k d ss (At st) = (m : Conf) × (st ≡ state_of others m) × P m × (length ss ≤ k) × (HasQuit st → m ≡ d) × (HasQuit st ⊎ IsReady code 0 st) × ((s : ℕ) → step code s st ≡ Spent → ⊥)
+IsWithin code P others k d ss (At st) = (m : Conf) × (st ≡ state_of others m) × P m × (length ss ≤ k) × (HasQuit st → m ≡ d) × (HasQuit st ⊎ IsReady code 0 st) × ((s : ℕ) → step code s st ≡ Spent → ⊥) × Rest code P m d
 IsWithin code P others k d ss (Trap kind) = Falls code kind d × (length ss ≤ k + 1)
 IsWithin code P others k d ss NoRun = Unit {0}
 
 deeper : (code : Code) (P : Conf → Type 0) (others k : ℕ) (d : Conf) (s : ℕ) (ss : List ℕ) (a : Ran) → IsWithin code P others k d ss a → IsWithin code P others (suc k) d (s ∷ ss) a
-deeper code P others k d s ss (At st) h = (h.0, h.1, h.2, omega (arith, h.3), h.4, h.5, h.6)
+deeper code P others k d s ss (At st) h = (h.0, h.1, h.2, omega (arith, h.3), h.4, h.5, h.6, h.7)
 deeper code P others k d s ss (Trap kind) h = (h.0, omega (arith, h.1))
 deeper code P others k d s ss NoRun h = tt
 
@@ -97,12 +101,12 @@ unspent_last code others c (inr f) e = absurd (let fall = f.1 others in cc)
 -- A run is a part of the way, or all of it, with the trap where it ends so.
 pub within : (code : Code) (P : Conf → Type 0) (others k : ℕ) (c d : Conf) → Way code P k c d → P d → IsLast code d → (ss : List ℕ) → IsWithin code P others k d ss (run code ss (state_of others c))
 within code P others zero c d f pd last [] =
-    (c, refl, subst P (sym f) pd, omega arith, λ _. f, ready_last code others c (subst (IsLast code) (sym f) last), unspent code others c (unspent_last code others c (subst (IsLast code) (sym f) last)))
+    (c, refl, subst P (sym f) pd, omega arith, λ _. f, ready_last code others c (subst (IsLast code) (sym f) last), unspent code others c (unspent_last code others c (subst (IsLast code) (sym f) last)), (0, f))
 within code P others zero c d f pd (inl quit) (zero ∷ ss) = stuck code P others 0 c d 0 ss (no_step code others c (ap (λ (x : Conf). x.slot) f ∙ quit))
 within code P others zero c d f pd (inr t) (zero ∷ ss) = trapped code P others c d t.0 ss f t.1
 within code P others zero c d f pd last (suc s ∷ ss) = stuck code P others 0 c d (suc s) ss (no_other code others s c)
 within code P others (suc k) c d f pd last [] =
-    (c, refl, f.0, omega arith, λ free. absurd (let none = no_step code others c (free 0 c.slot refl) in let some = f.2 others in cc), inr (λ w. let some = f.2 others in cc), unspent code others c (λ w. let some = f.2 others in cc))
+    (c, refl, f.0, omega arith, λ free. absurd (let none = no_step code others c (free 0 c.slot refl) in let some = f.2 others in cc), inr (λ w. let some = f.2 others in cc), unspent code others c (λ w. let some = f.2 others in cc), (suc k, f))
 within code P others (suc k) c d f pd last (zero ∷ ss) =
     let rest = deeper code P others k d 0 ss (run code ss (state_of others f.1)) (within code P others k f.1 d f.3 pd last ss) in
     subst (λ a. IsWithin code P others (suc k) d (0 ∷ ss) (onward a ss (run code ss))) (sym (f.2 others)) rest

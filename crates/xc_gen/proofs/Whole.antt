@@ -21,8 +21,9 @@ use Rattle.xc_meaning.specs.Meaning.{Point, point, Outcome, Done, Returned, Trap
 use Rattle.xc_meaning.specs.Source.{replies_of, main_with, IsTrace, IsWhole, SourceRun, HasEnded}
 use Rattle.xc_gen.specs.Fits.{most_globals, NamesIn, PrintsIn}
 use Rattle.xc_gen.specs.Code.{command_code, leave_code, enter_code, frame_cells, whole_code, waiting_in, waiting_among, waiting_for, waiting_for_all}
-use Rattle.xc_gen.specs.Faithful.{IsCount, SameResult, Faithful, NoStuck, size_of, size_of_all, largest, largest_among, TicksAtMost, words_of_globals, step_bound, word_bound, Ends}
-use Rattle.xc_gen.proofs.Ways.{Way, way_on, Falls, IsWithin, within, no_step}
+use Rattle.xc_gen.specs.Faithful.{IsCount, SameResult, Faithful, NoStuck, size_of, size_of_all, largest, largest_among, TicksAtMost, PrintsAtMost, words_of_globals, step_bound, word_bound, Ends}
+use Rattle.xc_gen.proofs.Ways.{Way, way_on, Rest, Falls, IsWithin, within, no_step}
+use Rattle.xc_gen.proofs.Grows.{way_grows}
 use Rattle.xc_gen.proofs.Deeds.{mine, part_mine, part_others, trapped_mine, ticks_of, Chain, chain_applies, append_none}
 use Rattle.xc_gen.proofs.Places.{Sound, framed, place, frame_at, IsSmall, small_before, small_after, frame_made}
 use Rattle.xc_gen.proofs.Paths.{has_rest}
@@ -199,6 +200,7 @@ module _ (p : Program) (c : Code) (tr : Translated p c) where
     trace : trace_of (main_with p (replies_of acts)) ≡ acts
     bound : steps ≤ K * ticks_of acts + 4
     smallness : P place
+    printed : place.world.out ≡ world.out
     way : Way c P steps first place
     fall : Falls c kind place
 
@@ -253,6 +255,7 @@ module _ (p : Program) (c : Code) (tr : Translated p c) where
         trace = ap trace_of (main_is h.acts (λ rs t. Trapped t) h.says);
         bound = omega (arith, h.paid);
         smallness = h.smallness;
+        printed = h.printed;
         way = way_on c P 2 h.steps first (place n cells 2 r2 w0 (λ i. 0)) h.place enter_way h.way;
         fall = h.fall;
       })
@@ -368,8 +371,19 @@ module _ (p : Program) (c : Code) (tr : Translated p c) where
   numbers_of others slots st (inl h) k = k.6
   numbers_of others slots st (inr h) k = k.6
 
+  -- what is printed where the way ends has been printed by a source run
+  output_at : (others m : ℕ) → PrintsAtMost p m → (st : State) (here d : Conf) (l : List (ℕ × Action)) (v : World) → st ≡ state_of others here → Rest c P here d → d.world.out ≡ v.out → SourceRun p l v → length st.world.out ≤ m
+  output_at others m most st here d l v e rest same source =
+      let now : length st.world.out ≡ length here.world.out = ap (λ (s : State). length s.world.out) e in
+      let then : length d.world.out ≡ length v.out = ap length same in
+      omega (arith, now, then, way_grows c P rest.0 here d rest.1, most l v source)
+
+  output_of : (others m : ℕ) → PrintsAtMost p m → (slots : List ℕ) (st : State) (o : Whole ⊎ Fallen) → Known others slots (At st) o → length st.world.out ≤ m
+  output_of others m most slots st (inl h) k = output_at others m most st k.0 (conf Empty h.world (suc n)) (mine h.acts) h.world k.1 k.7 refl (whole_run h)
+  output_of others m most slots st (inr h) k = output_at others m most st k.0 h.place (mine h.acts) h.world k.1 k.7 h.printed (fallen_run h)
+
   pub ends : Ends p c
-  ends = record { steps = steps; steps_to_trap = steps_to_trap; words = words; numbers = numbers }
+  ends = record { steps = steps; steps_to_trap = steps_to_trap; words = words; numbers = numbers; output = output }
     where
       steps : (streams m : ℕ) → IsCount streams → TicksAtMost p m → (slots : List ℕ) (st : State) → run c slots (start c streams) ≡ At st → length slots ≤ step_bound T streams m
       steps zero m count most slots st e = absurd (omega (arith, count.0))
@@ -386,3 +400,7 @@ module _ (p : Program) (c : Code) (tr : Translated p c) where
       numbers : (streams : ℕ) → IsCount streams → (slots : List ℕ) (st : State) → run c slots (start c streams) ≡ At st → (s : ℕ) → step c s st ≡ Spent → ⊥
       numbers zero count slots st e = absurd (omega (arith, count.0))
       numbers (suc others) count slots st e = numbers_of others slots st outcome (known_of others slots (At st) e)
+
+      output : (streams m : ℕ) → IsCount streams → PrintsAtMost p m → (slots : List ℕ) (st : State) → run c slots (start c streams) ≡ At st → length st.world.out ≤ m
+      output zero m count most slots st e = absurd (omega (arith, count.0))
+      output (suc others) m count most slots st e = output_of others m most slots st outcome (known_of others slots (At st) e)

@@ -69,6 +69,10 @@ abbrev mutual
 abbrev pub TicksAtMost : Program → ℕ → Type 0
 TicksAtMost p n = (l : List (ℕ × Action)) (v : World) → SourceRun p l v → ticks l ≤ n
 
+-- no source run prints more bytes
+abbrev pub PrintsAtMost : Program → ℕ → Type 0
+PrintsAtMost p n = (l : List (ℕ × Action)) (v : World) → SourceRun p l v → length v.out ≤ n
+
 abbrev pub words_of_globals : Program → ℕ
 words_of_globals p = sum_by length p.globals
 
@@ -80,8 +84,8 @@ step_bound t streams n = 64 * (t + streams + 1) * (n + 1)
 abbrev pub word_bound : ℕ → ℕ → ℕ → ℕ
 word_bound globals t streams = globals + 16 * (t + 8) * (streams + 1) * 3
 
--- No run is longer than its source's ticks allow, none has more live words than the bound, and none comes to a step for which the
--- numbers of segments are spent.
+-- No run is longer than its source's ticks allow, none has more live words than the bound, none comes to a step for which the
+-- numbers of segments are spent, and none prints more than source runs do.
 pub record Ends (p : Program) (c : Code) : Type 0 where
   pub steps : (streams n : ℕ) → IsCount streams → TicksAtMost p n → (slots : List ℕ) (st : State) → run c slots (start c streams) ≡ At st →
       length slots ≤ step_bound (largest p.body) streams n
@@ -90,3 +94,5 @@ pub record Ends (p : Program) (c : Code) : Type 0 where
   pub words : (streams : ℕ) → IsCount streams → (slots : List ℕ) (st : State) → run c slots (start c streams) ≡ At st →
       live_words st ≤ word_bound (words_of_globals p) (largest p.body) streams
   pub numbers : (streams : ℕ) → IsCount streams → (slots : List ℕ) (st : State) → run c slots (start c streams) ≡ At st → (s : ℕ) → step c s st ≡ Spent → ⊥
+  pub output : (streams n : ℕ) → IsCount streams → PrintsAtMost p n → (slots : List ℕ) (st : State) → run c slots (start c streams) ≡ At st →
+      length st.world.out ≤ n
