@@ -88,7 +88,7 @@ module _ (n cells : ℕ) (code : Code) (few : n ≤ most_globals) (short : cells
 
   pub bind : (b b' c d d' : ℕ) (m : Point → Value) (go : ℕ → Point → Value) (pc pc1 pc2 : ℕ) (r : Regs) (w : World) (f : ℕ → ℕ) → d ≤ d' → b + b' ≤ c → Evals b d' m pc r w f pc1
       → ((v : ℕ) (r1 : Regs) (w1 : World) (f1 : ℕ → ℕ) → Sound n cells w1 → r1 16 ≡ v → r1 23 ≡ fp → ((i : ℕ) → i < d' → f1 i ≡ f i) → Evals b' d (go v) pc1 r1 w1 f1 pc2) → Evals c d (λ p. then_value (m p) go) pc r w f pc2
-    unfolding died_on died_first
+  unfolding died_on died_first
   bind b b' c d d' m go pc pc1 pc2 r w f dd le (inr h) next = inr (record { steps = h.steps; last = h.last; kind = h.kind; source = died_first n m go w h.source; bound = omega (arith, h.bound); smallness = h.smallness; printed = h.printed; way = h.way; fall = h.fall })
   bind b b' c d d' m go pc pc1 pc2 r w f dd le (inl h) next = second (next h.v h.regs h.world h.words h.sound h.value h.pointer h.low)
     where

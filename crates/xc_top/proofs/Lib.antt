@@ -1,3 +1,5 @@
 pub mod Fetches
 pub mod Sources
 pub mod Judging
+pub mod Completing
+pub mod Running

@@ -84,12 +84,12 @@ module _ {C : Type 0} (picks : C → List ℕ → Option ℕ → C → Type 0) (
       faithful.traps o.streams (some, few) (r.streams ++ s ∷ []) kind (run_traps picks code (limits_in o) c (start code o.streams) r.streams r.last h.last s kind r.follows traps)
 
 module _ (p : Program) (code : Code) (o : Options) (steps : ℕ) (out named : List ℕ) (faithful : Faithful p code) (some : 1 ≤ o.streams) (few : o.streams ≤ 1024) where
-  output_of : (source : Source) → Plays source code o ending.Ended steps out named → IsSourceOutput p out
+  pub output_of : (source : Source) → Plays source code o ending.Ended steps out named → IsSourceOutput p out
   output_of Turns h = output_by PicksInTurn (λ (from : ℕ). false) 0 p code o steps out named faithful some few h
   output_of (Seed n) h = output_by PicksBySeed (λ (x : ℕ). false) n p code o steps out named faithful some few h
   output_of (Schedule entries) h = output_by PicksNext (λ (left : List ℕ). nat_lt 0 (length left)) entries p code o steps out named faithful some few h
 
-  trap_of : (source : Source) (kind : TrapKind) (s : ℕ) → Plays source code o (ending.Trap kind s) steps out named → HasSourceTrap p
+  pub trap_of : (source : Source) (kind : TrapKind) (s : ℕ) → Plays source code o (ending.Trap kind s) steps out named → HasSourceTrap p
   trap_of Turns kind s h = trap_by PicksInTurn (λ (from : ℕ). false) 0 p code o steps out named faithful some few kind s h
   trap_of (Seed n) kind s h = trap_by PicksBySeed (λ (x : ℕ). false) n p code o steps out named faithful some few kind s h
   trap_of (Schedule entries) kind s h = trap_by PicksNext (λ (left : List ℕ). nat_lt 0 (length left)) entries p code o steps out named faithful some few kind s h

@@ -1,15 +1,21 @@
 -- Why the top call answers as it does, and what it writes.
 use Rattle.std.specs.Prelude.{◌≡◌, ◌≢◌, ◌⊎◌, ◌<◌, ◌≤◌, ◌+◌, ◌^◌, ℕ, List, [], Option, Some, None, length, IsSome}
 use Rattle.xc_edge.specs.Counts.{Rises}
+use Rattle.xc_tree.specs.declared.tree.Tree.{Tree}
+use Rattle.xc_meaning.specs.Terms.{Program, program_of}
+use Rattle.xc_gen.specs.Unbuilt.{unbuilt_of}
+use Rattle.xc_driver.specs.Compiles.{IsTreeOf}
+use Rattle.xc_top_words.specs.declared.command.Options.{Options}
 use Rattle.xc_top_words.specs.declared.command.Command.{Command}
 use Rattle.xc_top_words.specs.declared.command.Command.TheVariants.{Run, Exec, Compile}
-use Rattle.xc_top_words.specs.Commands.{file_in, schedule_of}
+use Rattle.xc_top_words.specs.Commands.{file_in, schedule_in, schedule_of}
 use Rattle.xc_top.specs.declared.status.Shown.{Shown}
 use Rattle.xc_top.specs.declared.status.Status.{Status}
-use Rattle.xc_top.specs.declared.status.Status.TheVariants.{Ok, ReadFault, WriteFault, Usage, Long, NoMemory}
+use Rattle.xc_top.specs.declared.status.Status.TheVariants.{Ok, ReadFault, WriteFault, Usage, Long, Trap, NoMemory}
 use Rattle.xc_top.specs.Lines.{line_of}
 use Rattle.xc_top.specs.Seen.{Counts, ShelfSeen, until, since, SinkSeen, Told, Untouched, Whole, Part, Puts}
-use Rattle.xc_top.specs.Judges.{Judges}
+use Rattle.xc_top.specs.Judges.{IsSourceOutput, HasSourceTrap, Judges}
+use Rattle.xc_top.specs.Completes.{HasRoom, Completes}
 
 -- a source has at most 1 MiB
 abbrev pub source_limit : ℕ
@@ -82,7 +88,7 @@ pub data Cause (command : Option Command) (shelf : ShelfSeen) (status : Status) 
   NoCommand : command ≡ None → status ≡ Usage → out ≡ [] → err ≡ line_of status → Cause command shelf status out err
   NotRead : (c : Command) → command ≡ Some c → IsUnread c shelf status → out ≡ [] → err ≡ line_of status → Cause command shelf status out err
   Judged : (c : Command) → command ≡ Some c → (text : List ℕ) (schedule : Option (List ℕ)) → AreRead c shelf text schedule
-      → Judges c text schedule status out err → Cause command shelf status out err
+      → Judges c text schedule status out err → Completes c text status out → Cause command shelf status out err
 
 -- ---- answers
 
@@ -101,3 +107,31 @@ abbrev pub Tells : Option Command → ShelfSeen → SinkSeen → SinkSeen → St
 Tells command shelf out err status =
     ((status ≡ NoMemory) × MayHaveFetched command shelf × Untouched out × Puts (line_of NoMemory) err)
     ⊎ ((planned : Status) × (o : List ℕ) × (e : List ℕ) × Cause command shelf planned o e × Writes planned o e out err status)
+
+-- ---- programs that run to an end
+
+-- A `run` without a schedule of a text with this tree, whose forms all have code, with room for its program. Files are told, this
+-- one is fetched, and what is put is written.
+pub record CanRun (command : Option Command) (shelf : ShelfSeen) (out err : SinkSeen) (tree : Tree) : Type 0 where
+  pub options : Options
+  pub file : List ℕ
+  pub is_run : command ≡ Some (Run options file)
+  pub unscheduled : schedule_in options.choice ≡ None
+  pub files : List ℕ → Option (List ℕ)
+  pub are_told : shelf.files ≡ Some files
+  pub text : List ℕ
+  pub is_there : files file ≡ Some text
+  pub short : length text ≤ source_limit
+  pub is_tree : IsTreeOf text tree
+  pub built : unbuilt_of tree ≡ None
+  pub room : HasRoom options (program_of tree)
+  pub fetched : Rises 1 (shelf.before.faults file) (shelf.after.faults file) → ⊥
+  pub out_written : Rises 1 out.faults_before out.faults_after → ⊥
+  pub err_written : Rises 1 err.faults_before err.faults_after → ⊥
+
+-- The answer to it: the whole output of a source run that has ended is written; or a source run traps; or memory is used up.
+abbrev pub IsRunToEnd : Program → SinkSeen → Status → Type 0
+IsRunToEnd p out (Ok shown) = (o : List ℕ) × IsSourceOutput p o × Whole o out
+IsRunToEnd p out (Trap shown) = HasSourceTrap p
+IsRunToEnd p out NoMemory = Unit {0}
+IsRunToEnd p out _ = ⊥

@@ -9,7 +9,7 @@ use Rattle.xc_meaning.specs.Source.{SourceRun, HasEnded}
 use Rattle.xc_isa.specs.declared.code.Code.{Code}
 use Rattle.xc_driver.specs.declared.fault.RefusalKind.{RefusalKind}
 use Rattle.xc_driver.specs.declared.fault.RefusalKind.TheVariants as refusal
-use Rattle.xc_driver.specs.Compiles.{IsTreeOf, IsCodeOf, IsRefusal}
+use Rattle.xc_driver.specs.Compiles.{IsTreeOf, IsCodeOf, IsOnlyTree, IsRefusal, IsOnlyRefusal}
 use Rattle.xc_text_lines.specs.Grammar.{IsFirstBad}
 use Rattle.xc_isa_text.specs.Texts.{contents_of, Spells as SpellsCode, IsAssembly}
 use Rattle.xc_sched.specs.Runs.{Spells as SpellsSteps, IsSchedule}
@@ -33,9 +33,9 @@ use Rattle.xc_top.specs.declared.status.Status.{Status}
 use Rattle.xc_top.specs.declared.status.Status.TheVariants.{Ok, Refused, Trap, Unfinished, Stuck, BadSchedule, WordsFull, OutFull}
 use Rattle.xc_top.specs.Lines.{line_of}
 
--- the code of a source's typed tree, which is faithful to its program, ends in time and is never stuck
+-- the code of a source's one typed tree, which is faithful to its program, ends in time and is never stuck
 abbrev pub IsSourceCode : List ℕ → Code → Type 0
-IsSourceCode text code = (tree : Tree) × IsTreeOf text tree × IsCodeOf tree code
+IsSourceCode text code = (tree : Tree) × IsTreeOf text tree × IsCodeOf tree code × IsOnlyTree text tree
 
 -- the code that a file's text stands for: a source's, or the assembly's
 abbrev pub StandsFor : Command → List ℕ → Code → Type 0
@@ -53,9 +53,9 @@ kind_of refusal.Typing = Typing
 kind_of refusal.Count = Count
 kind_of refusal.Unbuilt = Unbuilt
 
--- why a source has no code, and where
+-- why a source has no code, and where; there is no other reason
 abbrev pub IsRefusedSource : List ℕ → FileKind → Pos → Type 0
-IsRefusedSource text kind at = (why : RefusalKind) × (kind ≡ kind_of why) × IsRefusal text why at
+IsRefusedSource text kind at = (why : RefusalKind) × (kind ≡ kind_of why) × IsRefusal text why at × IsOnlyRefusal text why at
 
 -- why a text is no assembly: its first bad line
 abbrev pub IsRefusedCode : List ℕ → FileKind → Pos → Type 0

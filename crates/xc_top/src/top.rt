@@ -3,7 +3,9 @@
 ghost use Rattle.std.specs.Prelude.{◌≡◌, Some, None, map, string_bytes, IfOk, OnErr};
 ghost use Rattle.xc_top_words.specs.Words.{command_of};
 ghost use Rattle.xc_top.specs.Seen.{shelf_seen, sink_seen, Puts};
-ghost use Rattle.xc_top.specs.Answers.{MayHaveFetched, Cause, Finishes, Writes, Tells};
+ghost use Rattle.xc_tree.specs.declared.tree.Tree.{Tree};
+ghost use Rattle.xc_meaning.specs.Terms.{program_of};
+ghost use Rattle.xc_top.specs.Answers.{MayHaveFetched, Cause, Finishes, Writes, Tells, CanRun, IsRunToEnd};
 
 use crate::fetch::{Unread, fetch_texts};
 use crate::judge::{Plan, judge, say};
@@ -24,6 +26,7 @@ pub fn xmtc<F: Shelf, O: Sink, E: Sink>(
 ) -> Status
     ensures tells { Tells (command_of (map string_bytes words.now)) (shelf_seen F.files F.faults F.taken shelf.old shelf.new) (sink_seen O.written O.faults out.old out.new) (sink_seen E.written E.faults err.old err.new) result }
     ensures usage { command_of (map string_bytes words.now) ≡ None → shelf.new ≡ shelf.old }
+    ensures completes { (tree : Tree) → CanRun (command_of (map string_bytes words.now)) (shelf_seen F.files F.faults F.taken shelf.old shelf.new) (sink_seen O.written O.faults out.old out.new) (sink_seen E.written E.faults err.old err.new) tree → IsRunToEnd (program_of tree) (sink_seen O.written O.faults out.old out.new) result }
 {
     match plan_of_words(alloc, words, shelf) {
         Ok(plan) => write_plan(plan, out, err),

@@ -5,6 +5,7 @@ use Rattle.xc_top.specs.Seen.{shelf_seen}
 use Rattle.xc_top.specs.Lines.{line_of}
 use Rattle.xc_top.specs.Judges.{Judges}
 use Rattle.xc_top.specs.Answers.{Judged, NotRead, IsUnread}
+use Rattle.xc_top.proofs.Completing.{completes}
 use Rattle.xc_top.proofs.top.plan_of.Goals as goal
 
 pub returns-in-Ok-clause-plan : goal.returns-in-Ok-clause-plan
@@ -12,7 +13,9 @@ returns-in-Ok-clause-plan g c =
     let texts = c.in-Ok.texts in
     let schedule = option_map (λ v. v.items) texts.schedule in
     IfOk-weaker c.judge-plan.result _ _
-    (λ p h. Judged c.args.command.now refl texts.text.items schedule c.in-Ok.ensures.texts (subst (λ t. Judges c.args.command.now t schedule p.status p.out.items p.err.items) c.as_slice.ensures.value h))
+    (λ p h.
+    let judged = subst (λ t. Judges c.args.command.now t schedule p.status p.out.items p.err.items) c.as_slice.ensures.value h in
+    Judged c.args.command.now refl texts.text.items schedule c.in-Ok.ensures.texts judged (completes c.args.command.now texts.text.items schedule p.status p.out.items p.err.items judged))
     c.judge-plan.ensures
 
 pub returns-in-Err-Said-clause-plan : goal.returns-in-Err-Said-clause-plan
