@@ -1,5 +1,5 @@
 -- A text with a tree whose forms all have code is compiled, and run to an end where there is room for its program.
-use Rattle.std.proofs.Common.{◌≡◌, ◌⊎◌, ℕ, ◌<◌, ◌≤◌, List, [], Bool, true, false, Option, Some, None, length, inl, inr, refl, sym, ap, ◌∙◌, subst, arith}
+use Rattle.std.proofs.Common.{◌≡◌, ◌⊎◌, ℕ, ◌≤◌, List, [], Bool, false, Option, Some, None, length, inl, inr, refl, sym, subst, arith}
 use Rattle.std.specs.Prelude.{nat_lt}
 use Rattle.xc_text_place.specs.declared.Pos.{Pos}
 use Rattle.xc_sched.specs.Choices.{PicksInTurn, PicksBySeed, PicksNext}
@@ -20,15 +20,12 @@ use Rattle.xc_top_words.specs.declared.command.Options.{Options}
 use Rattle.xc_top_words.specs.declared.command.Command.{Command}
 use Rattle.xc_top_words.specs.declared.command.Command.TheVariants.{Run, Exec, Compile}
 use Rattle.xc_machine_play.specs.declared.source.Source.{Source}
-use Rattle.xc_machine_play.specs.declared.source.Source.TheVariants as source
 use Rattle.xc_machine_play.specs.declared.outcome.Ending.{Ending}
 use Rattle.xc_machine_play.specs.declared.outcome.Ending.TheVariants as ending
 use Rattle.xc_machine_play.specs.Plays.{limits_in, IsTooBig, PlaysBy, Plays}
 use Rattle.xc_top.specs.declared.status.Numbers.{Numbers}
-use Rattle.xc_top.specs.declared.status.Bad.TheVariants.{Line}
 use Rattle.xc_top.specs.declared.status.Status.{Status}
-use Rattle.xc_top.specs.declared.status.Status.TheVariants.{BadSchedule}
-use Rattle.xc_top.specs.Judges.{IsSourceCode, IsRefusedSource, Chooses, IsBadSchedule, IsSourceOutput, HasSourceTrap, status_of, Executes, NoSchedule, WasRun, Judges, NoCode, Executed, Written}
+use Rattle.xc_top.specs.Judges.{Chooses, IsBadSchedule, IsSourceOutput, HasSourceTrap, status_of, Executes, NoSchedule, WasRun, Judges, NoCode, Executed, Written}
 use Rattle.xc_top.specs.Completes.{HasRoom, IsScheduled, IsEndOf, Completes}
 use Rattle.xc_top.proofs.Sources.{output_of, trap_of}
 

@@ -1,5 +1,5 @@
 -- The output of compiled code whose streams have all ended is that of a source run, and compiled code that traps has a source run that traps.
-use Rattle.std.proofs.Common.{◌≡◌, ◌≤◌, ℕ, List, [], ◌∷◌, ◌++◌, Bool, true, false, Option, Some, None, length, inl, inr, refl, sym, ap, ◌∙◌, subst}
+use Rattle.std.proofs.Common.{◌≡◌, ◌≤◌, ℕ, List, [], ◌∷◌, ◌++◌, Bool, true, false, Option, Some, length, inl, inr, refl, sym, ap, ◌∙◌, subst}
 use Rattle.std.specs.Prelude.{nat_lt}
 use Rattle.xc_sched.specs.Choices.{PicksInTurn, PicksBySeed, PicksNext}
 use Rattle.xc_meaning.specs.Terms.{Program, program_of}
@@ -21,7 +21,7 @@ use Rattle.xc_machine_play.specs.declared.source.Source.{Source}
 use Rattle.xc_machine_play.specs.declared.source.Source.TheVariants.{Turns, Seed, Schedule}
 use Rattle.xc_machine_play.specs.declared.outcome.Ending.{Ending}
 use Rattle.xc_machine_play.specs.declared.outcome.Ending.TheVariants as ending
-use Rattle.xc_machine_play.specs.Plays.{ending_of, limits_in, Played, PlaysBy, Plays}
+use Rattle.xc_machine_play.specs.Plays.{ending_of, limits_in, PlaysBy, Plays}
 use Rattle.xc_top.specs.declared.status.Numbers.{Numbers}
 use Rattle.xc_top.specs.declared.status.Shown.{Shown}
 use Rattle.xc_top.specs.declared.status.TrapShown.{TrapShown}

@@ -1,5 +1,5 @@
 -- What a command answers to a text with a tree, where there is room for its program.
-use Rattle.std.specs.Prelude.{◌≡◌, ◌≤◌, ℕ, List, Some, None}
+use Rattle.std.specs.Prelude.{◌≡◌, ◌≤◌, ℕ, List, None}
 use Rattle.xc_tree.specs.declared.tree.Tree.{Tree}
 use Rattle.xc_meaning.specs.Terms.{Program, program_of}
 use Rattle.xc_gen.specs.Unbuilt.{unbuilt_of}

@@ -2,5 +2,7 @@
 #![tactic(auto)]
 
 mod answers;
+mod complete;
 
 pub use answers::answer;
+pub use complete::run_to_end;
