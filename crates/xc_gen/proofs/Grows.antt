@@ -1,10 +1,10 @@
 -- The output of a machine only grows.
-use Rattle.std.proofs.Common.{◌≡◌, ℕ, zero, suc, ◌+◌, ◌-◌, ◌^◌, ◌≤◌, Bool, true, false, cond, List, [], ◌∷◌, ◌++◌, length, Option, Some, None, sym, ap, ◌∙◌, subst, arith, length-append}
-use Rattle.std.specs.Prelude.{nat_lt, slice_get, slice_set}
-use Rattle.xc_meaning_world.specs.World.{Segs, World, Request, On, Print, Begin, Stop, Tick, Reply, Got, Dead, touched, with_out, serve}
+use Rattle.std.proofs.Common.{◌≡◌, ℕ, zero, suc, ◌-◌, ◌^◌, ◌≤◌, Bool, true, false, cond, List, ◌++◌, length, Option, Some, None, ap, subst, arith, length-append}
+use Rattle.std.specs.Prelude.{nat_lt, slice_get}
+use Rattle.xc_meaning_world.specs.World.{Segs, World, Request, On, Print, Begin, Stop, Tick, Reply, Got, Dead, touched, with_out}
 use Rattle.xc_isa.specs.declared.code.Code.{Code}
 use Rattle.xc_isa.specs.Effects.{Regs, Effect, Goes, Asks, Faults, Quits, effect}
-use Rattle.xc_isa.specs.Machine.{Slot, Empty, Live, State, After, At, Trap, Waits, Spent, last_after, with_slot, numbered, served, free_slot, starts, asks, takes, in_slot, step}
+use Rattle.xc_isa.specs.Machine.{Slot, Empty, Live, State, After, At, Trap, Waits, Spent, last_after, with_slot, served, free_slot, starts, asks, takes, in_slot, step}
 use Rattle.xc_isa.proofs.Follows.{Conf, state_of}
 use Rattle.xc_gen.proofs.Ways.{Way}
 

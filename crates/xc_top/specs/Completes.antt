@@ -29,8 +29,8 @@ IsScheduled choice.Turns = ⊥
 IsScheduled (choice.Seed n) = ⊥
 IsScheduled (choice.Schedule file) = Unit {0}
 
--- Where there is room, the output is that of a source run that has ended, or a source run traps. A schedule that is named may be
--- none, be wrong at a step, or be too short; nothing else is answered.
+-- Where there is room, the output is that of a source run that has ended, or a source run traps. The text of a schedule that is named
+-- may be none, and its steps may be wrong, too few or too many. There is no other end.
 abbrev pub IsEndOf : Choice → Program → Status → List ℕ → Type 0
 IsEndOf by p (Ok shown) out = IsSourceOutput p out
 IsEndOf by p (Trap shown) out = HasSourceTrap p
@@ -40,6 +40,7 @@ IsEndOf by p _ out = ⊥
 
 -- A text with a tree whose forms all have code is run to an end where there is room for its program, and it is compiled.
 abbrev pub Completes : Command → List ℕ → Status → List ℕ → Type 0
-Completes (Run o file) text status out = (tree : Tree) → IsTreeOf text tree → unbuilt_of tree ≡ None → HasRoom o (program_of tree) → IsEndOf o.choice (program_of tree) status out
+Completes (Run o file) text status out =
+    (tree : Tree) → IsTreeOf text tree → unbuilt_of tree ≡ None → HasRoom o (program_of tree) → IsEndOf o.choice (program_of tree) status out
 Completes (Compile file) text status out = (tree : Tree) → IsTreeOf text tree → unbuilt_of tree ≡ None → status ≡ Ok Nothing
 Completes (Exec o file) text status out = Unit {0}
