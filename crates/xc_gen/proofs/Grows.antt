@@ -1,10 +1,10 @@
 -- The output of a machine only grows.
-use Rattle.std.proofs.Common.{◌≡◌, ℕ, zero, suc, ◌-◌, ◌^◌, ◌≤◌, Bool, true, false, cond, List, ◌++◌, length, Option, Some, None, ap, subst, arith, length-append}
+use Rattle.std.proofs.Common.{◌≡◌, ℕ, zero, suc, ◌-◌, ◌^◌, ◌≤◌, Bool, true, false, cond, List, [], ◌++◌, length, Option, Some, None, ap, subst, arith, length-append}
 use Rattle.std.specs.Prelude.{nat_lt, slice_get}
 use Rattle.xc_meaning_world.specs.World.{Segs, World, Request, On, Print, Begin, Stop, Tick, Reply, Got, Dead, touched, with_out}
 use Rattle.xc_isa.specs.declared.code.Code.{Code}
 use Rattle.xc_isa.specs.Effects.{Regs, Effect, Goes, Asks, Faults, Quits, effect}
-use Rattle.xc_isa.specs.Machine.{Slot, Empty, Live, State, After, At, Trap, Waits, Spent, last_after, with_slot, served, free_slot, starts, asks, takes, in_slot, step}
+use Rattle.xc_isa.specs.Machine.{Slot, Absent, Empty, Live, State, After, At, Trap, Waits, Spent, last_after, with_slot, served, free_slot, starts, asks, takes, in_slot, step}
 use Rattle.xc_isa.proofs.Follows.{Conf, state_of}
 use Rattle.xc_gen.proofs.Ways.{Way}
 
@@ -47,6 +47,7 @@ takes_grows Quits s slots w last = omega arith
 
 slot_grows : (code : Code) (x : Option Slot) (s : ℕ) (slots : List Slot) (w : World) (last : ℕ) → Grows (length w.out) (in_slot code x s slots w last)
 slot_grows code None s slots w last = tt
+slot_grows code (Some Absent) s slots w last = tt
 slot_grows code (Some Empty) s slots w last = tt
 slot_grows code (Some (Live pc r)) s slots w last = takes_grows (effect code.formats (slice_get code.instrs pc) pc r) s slots w last
 
@@ -55,4 +56,4 @@ step_grows code s st new e = subst (Grows (length st.world.out)) e (slot_grows c
 
 pub way_grows : (code : Code) (P : Conf → Type 0) (k : ℕ) (c d : Conf) → Way code P k c d → length c.world.out ≤ length d.world.out
 way_grows code P zero c d f = let same : length c.world.out ≡ length d.world.out = ap (λ (x : Conf). length x.world.out) f in omega (arith, same)
-way_grows code P (suc k) c d f = omega (arith, step_grows code 0 (state_of 0 c) (state_of 0 f.1) (f.2 0), way_grows code P k f.1 d f.3)
+way_grows code P (suc k) c d f = omega (arith, step_grows code 0 (state_of [] c) (state_of [] f.1) (f.2 []), way_grows code P k f.1 d f.3)

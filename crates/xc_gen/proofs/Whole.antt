@@ -3,7 +3,7 @@ use Rattle.std.proofs.Common.{◌≡◌, ℕ, zero, suc, ◌+◌, ◌*◌, ◌^�
 use Rattle.std.proofs.lemmas.List.{length-map}
 use Rattle.std.proofs.lemmas.List.Sums.{sum_by-cons}
 use Rattle.std.proofs.lemmas.Nat.{mul-le}
-use Rattle.std.specs.Prelude.{◌⊎◌, slice_get, replicate, sum_by, unwrap_or}
+use Rattle.std.specs.Prelude.{◌⊎◌, slice_get, sum_by, unwrap_or}
 use Rattle.xc_word.specs.declared.memory.Cell.{Cell}
 use Rattle.xc_meaning_world.specs.World.{World, Request, On, New, Reply, Dead, Action, act_of, put, world_of}
 use Rattle.xc_meaning_world.specs.Runs.{HasTrapped}
@@ -13,16 +13,16 @@ use Rattle.xc_isa.specs.declared.instr.Instr.{Instr}
 use Rattle.xc_isa.specs.declared.instr.Instr.TheVariants as instr
 use Rattle.xc_isa.specs.Texts.{cells_of}
 use Rattle.xc_isa.specs.Effects.{Regs}
-use Rattle.xc_isa.specs.Machine.{Empty, Live, State, Spent, start, step, HasQuit, IsReady, live_words}
+use Rattle.xc_isa.specs.Machine.{Slot, Empty, Live, State, Spent, start, step, IsIdle, HasQuit, IsReady, live_words}
 use Rattle.xc_isa.specs.Runs.{Ran, At, Trap, run}
-use Rattle.xc_isa.proofs.Follows.{HasAt, has_front, has_all, Conf, conf, state_of, goes, asks}
+use Rattle.xc_isa.proofs.Follows.{HasAt, has_front, has_all, Conf, conf, state_of, goes, asks, no_step, no_step_quit, start_is}
 use Rattle.xc_meaning.specs.Terms.{Term, Number, Read, Write, Update, Unary, Binary, And, Or, Cond, Comma, Print, Terms, NoMore, More, Command, Empty as NoDeed, Eval, Block, Return, Commands, End, Then, Program}
 use Rattle.xc_meaning.specs.Meaning.{Point, point, Outcome, Done, Returned, Trapped, outcome_of, ended, trace_of}
 use Rattle.xc_meaning.specs.Source.{replies_of, main_with, IsTrace, IsWhole, SourceRun, HasEnded}
 use Rattle.xc_gen.specs.Fits.{most_globals, NamesIn, PrintsIn}
 use Rattle.xc_gen.specs.Code.{command_code, leave_code, enter_code, frame_cells, whole_code, waiting_in, waiting_among, waiting_for, waiting_for_all}
-use Rattle.xc_gen.specs.Faithful.{IsCount, SameResult, Faithful, NoStuck, size_of, size_of_all, largest, largest_among, TicksAtMost, PrintsAtMost, words_of_globals, step_bound, word_bound, Ends}
-use Rattle.xc_gen.proofs.Ways.{Way, way_on, Rest, Falls, IsWithin, within, no_step}
+use Rattle.xc_gen.specs.Faithful.{IsMachine, SameResult, Faithful, NoStuck, size_of, size_of_all, largest, largest_among, TicksAtMost, PrintsAtMost, words_of_globals, step_bound, word_bound, Ends}
+use Rattle.xc_gen.proofs.Ways.{Way, way_on, Rest, Falls, IsWithin, within}
 use Rattle.xc_gen.proofs.Grows.{way_grows}
 use Rattle.xc_gen.proofs.Deeds.{mine, part_mine, part_others, trapped_mine, ticks_of, Chain, chain_applies, append_none}
 use Rattle.xc_gen.proofs.Places.{Sound, framed, place, frame_at, IsSmall, small_before, small_after, frame_made}
@@ -266,10 +266,11 @@ module _ (p : Program) (c : Code) (tr : Translated p c) where
   count_is = sym (length-map c.globals cells_of) ∙ ap length tr.globals
 
   -- the machine at its start
-  start_is : (others : ℕ) → start c (suc others) ≡ state_of others first
-  start_is others =
-      let begun : ℕ → List (List Cell) → State = λ l gs. record { slots = Live 0 zeros ∷ replicate others Empty; world = world_of gs; last = l } in
-      ap (λ l. begun l (map cells_of c.globals)) count_is ∙ ap (begun n) tr.globals
+  begins : (q k : ℕ) → IsMachine q k → (others : List Slot) × IsIdle others × (start c q k ≡ state_of others first)
+  begins q k machine =
+      let s = start_is c q k machine.0.0 machine.1.0 in
+      let begun : ℕ → List (List Cell) → State = λ l gs. state_of s.0 (conf (Live 0 zeros) (world_of gs) l) in
+      (s.0, s.1, s.2 ∙ ap (λ l. begun l (map cells_of c.globals)) count_is ∙ ap (begun n) tr.globals)
 
   source_run : (acts : List Action) (w : World) → Chain n w0 acts w → IsTrace p acts → SourceRun p (mine acts) w
   source_run acts w chain t = record {
@@ -285,122 +286,132 @@ module _ (p : Program) (c : Code) (tr : Translated p c) where
   fallen_run h = source_run h.acts h.world h.chain ([], h.trace ∙ sym (append_none h.acts))
 
   -- what is known of a run, by how its way ends
-  abbrev Known : ℕ → List ℕ → Ran → Whole ⊎ Fallen → Type 0
+  abbrev Known : List Slot → List ℕ → Ran → Whole ⊎ Fallen → Type 0
   Known others slots a (inl h) = IsWithin c P others h.steps (conf Empty h.world (suc n)) slots a
   Known others slots a (inr h) = IsWithin c P others h.steps h.place slots a
 
-  known : (others : ℕ) (slots : List ℕ) (o : Whole ⊎ Fallen) → Known others slots (run c slots (state_of others first)) o
-  known others slots (inl h) = within c P others h.steps first (conf Empty h.world (suc n)) h.way (small_after n cells Empty h.world h.sound) (inl refl) slots
-  known others slots (inr h) = within c P others h.steps first h.place h.way h.smallness (inr (h.kind, h.fall)) slots
+  known : (others : List Slot) → IsIdle others → (slots : List ℕ) (o : Whole ⊎ Fallen) → Known others slots (run c slots (state_of others first)) o
+  known others idle slots (inl h) = within c P others h.steps first (conf Empty h.world (suc n)) idle h.way (small_after n cells Empty h.world h.sound) (inl refl) slots
+  known others idle slots (inr h) = within c P others h.steps first h.place idle h.way h.smallness (inr (h.kind, h.fall)) slots
 
-  known_of : (others : ℕ) (slots : List ℕ) (a : Ran) → run c slots (start c (suc others)) ≡ a → Known others slots a outcome
-  known_of others slots a e = subst (λ a. Known others slots a outcome) (ap (run c slots) (sym (start_is others)) ∙ e) (known others slots outcome)
+  known_of : (q k : ℕ) → IsMachine q k → (slots : List ℕ) (a : Ran) → run c slots (start c q k) ≡ a → (others : List Slot) × Known others slots a outcome
+  known_of q k machine slots a e =
+      let b = begins q k machine in
+      (b.0, subst (λ a. Known b.0 slots a outcome) (ap (run c slots) (sym b.2) ∙ e) (known b.0 b.1 slots outcome))
 
   -- a step that traps is not one of a stream that has quit
-  no_fall : (others : ℕ) (kind : TrapKind) (d : Conf) → d.slot ≡ Empty → Falls c kind d → ⊥
+  no_fall : (others : List Slot) (kind : TrapKind) (d : Conf) → d.slot ≡ Empty → Falls c kind d → ⊥
   no_fall others kind d quit fall = let none = no_step c others d quit in let some = fall others in cc
 
   abbrev Ended : State → Type 0
   Ended st = (l : List (ℕ × Action)) × (v : World) × SourceRun p l v × HasEnded p l × SameResult n v st.world
 
-  ended_of : (others : ℕ) (slots : List ℕ) (st : State) (o : Whole ⊎ Fallen) → Known others slots (At st) o → HasQuit st → Ended st
+  ended_of : (others : List Slot) (slots : List ℕ) (st : State) (o : Whole ⊎ Fallen) → Known others slots (At st) o → HasQuit st → Ended st
   ended_of others slots st (inl h) k free =
       let at : st ≡ state_of others (conf Empty h.world (suc n)) = k.1 ∙ ap (state_of others) (k.4 free) in
       let same : st.world ≡ h.world = ap (λ (s : State). s.world) at in
       (mine h.acts, h.world, whole_run h, subst (IsWhole p) (sym (part_mine h.acts)) h.whole, (ap (λ (w : World). w.out) (sym same), λ g le. ap (λ (w : World). w.segs g) (sym same)))
   ended_of others slots st (inr h) k free =
       let at : st ≡ state_of others h.place = k.1 ∙ ap (state_of others) (k.4 free) in
-      absurd (no_fall others h.kind h.place (free 0 h.place.slot (ap (λ (s : State). slice_get s.slots 0) at)) h.fall)
+      absurd (let none = no_step_quit c others h.place (subst HasQuit at free) in let some = h.fall others in cc)
 
   abbrev Trapped_so : Type 0
   Trapped_so = (l : List (ℕ × Action)) × (v : World) × SourceRun p l v × HasTrapped l
 
-  trapped_of : (others : ℕ) (slots : List ℕ) (kind : TrapKind) (o : Whole ⊎ Fallen) → Known others slots (Trap kind) o → Trapped_so
+  trapped_of : (others : List Slot) (slots : List ℕ) (kind : TrapKind) (o : Whole ⊎ Fallen) → Known others slots (Trap kind) o → Trapped_so
   trapped_of others slots kind (inl h) k = absurd (no_fall others kind (conf Empty h.world (suc n)) refl k.0)
   trapped_of others slots kind (inr h) k = (mine h.acts, h.world, fallen_run h, trapped_mine h.acts h.front h.request h.last)
 
   pub faithful : Faithful p c
   faithful = record { ends = ends; traps = traps }
     where
-      ends : (streams : ℕ) → IsCount streams → (slots : List ℕ) (st : State) → run c slots (start c streams) ≡ At st → HasQuit st → Ended st
-      ends zero count slots st e free = absurd (omega (arith, count.0))
-      ends (suc others) count slots st e free = ended_of others slots st outcome (known_of others slots (At st) e) free
+      ends : (q k : ℕ) → IsMachine q k → (slots : List ℕ) (st : State) → run c slots (start c q k) ≡ At st → HasQuit st → Ended st
+      ends q k machine slots st e free =
+          let h = known_of q k machine slots (At st) e in
+          ended_of h.0 slots st outcome h.1 free
 
-      traps : (streams : ℕ) → IsCount streams → (slots : List ℕ) (kind : TrapKind) → run c slots (start c streams) ≡ Trap kind → Trapped_so
-      traps zero count slots kind e = absurd (omega (arith, count.0))
-      traps (suc others) count slots kind e = trapped_of others slots kind outcome (known_of others slots (Trap kind) e)
+      traps : (q k : ℕ) → IsMachine q k → (slots : List ℕ) (kind : TrapKind) → run c slots (start c q k) ≡ Trap kind → Trapped_so
+      traps q k machine slots kind e =
+          let h = known_of q k machine slots (Trap kind) e in
+          trapped_of h.0 slots kind outcome h.1
 
   one_ready : (st : State) → HasQuit st ⊎ IsReady c 0 st → HasQuit st ⊎ ((s : ℕ) × IsReady c s st)
   one_ready st (inl free) = inl free
   one_ready st (inr ready) = inr (0, ready)
 
-  ready_of : (others : ℕ) (slots : List ℕ) (st : State) (o : Whole ⊎ Fallen) → Known others slots (At st) o → HasQuit st ⊎ ((s : ℕ) × IsReady c s st)
+  ready_of : (others : List Slot) (slots : List ℕ) (st : State) (o : Whole ⊎ Fallen) → Known others slots (At st) o → HasQuit st ⊎ ((s : ℕ) × IsReady c s st)
   ready_of others slots st (inl h) k = one_ready st k.5
   ready_of others slots st (inr h) k = one_ready st k.5
 
   pub no_stuck : NoStuck c
   no_stuck = record { ready = ready }
     where
-      ready : (streams : ℕ) → IsCount streams → (slots : List ℕ) (st : State) → run c slots (start c streams) ≡ At st → HasQuit st ⊎ ((s : ℕ) × IsReady c s st)
-      ready zero count slots st e = absurd (omega (arith, count.0))
-      ready (suc others) count slots st e = ready_of others slots st outcome (known_of others slots (At st) e)
+      ready : (q k : ℕ) → IsMachine q k → (slots : List ℕ) (st : State) → run c slots (start c q k) ≡ At st → HasQuit st ⊎ ((s : ℕ) × IsReady c s st)
+      ready q k machine slots st e =
+          let h = known_of q k machine slots (At st) e in
+          ready_of h.0 slots st outcome h.1
 
   -- ---- bounds
 
   abbrev T : ℕ
   T = largest p.body
 
-  steps_of : (others m : ℕ) → TicksAtMost p m → (slots : List ℕ) (st : State) (o : Whole ⊎ Fallen) → Known others slots (At st) o → length slots ≤ step_bound T (suc others) m
-  steps_of others m most slots st (inl h) k = steps_bound T (suc others) (ticks_of h.acts) m (length slots) (omega (arith, k.3, h.bound)) (most (mine h.acts) h.world (whole_run h))
-  steps_of others m most slots st (inr h) k = steps_bound T (suc others) (ticks_of h.acts) m (length slots) (omega (arith, k.3, h.bound)) (most (mine h.acts) h.world (fallen_run h))
+  steps_of : (others : List Slot) (z m : ℕ) → TicksAtMost p m → (slots : List ℕ) (st : State) (o : Whole ⊎ Fallen) → Known others slots (At st) o → length slots ≤ step_bound T z m
+  steps_of others z m most slots st (inl h) k = steps_bound T z (ticks_of h.acts) m (length slots) (omega (arith, k.3, h.bound)) (most (mine h.acts) h.world (whole_run h))
+  steps_of others z m most slots st (inr h) k = steps_bound T z (ticks_of h.acts) m (length slots) (omega (arith, k.3, h.bound)) (most (mine h.acts) h.world (fallen_run h))
 
-  steps_of_trap : (others m : ℕ) → TicksAtMost p m → (slots : List ℕ) (kind : TrapKind) (o : Whole ⊎ Fallen) → Known others slots (Trap kind) o → length slots ≤ step_bound T (suc others) m
-  steps_of_trap others m most slots kind (inl h) k = steps_bound T (suc others) (ticks_of h.acts) m (length slots) (omega (arith, k.1, h.bound)) (most (mine h.acts) h.world (whole_run h))
-  steps_of_trap others m most slots kind (inr h) k = steps_bound T (suc others) (ticks_of h.acts) m (length slots) (omega (arith, k.1, h.bound)) (most (mine h.acts) h.world (fallen_run h))
+  steps_of_trap : (others : List Slot) (z m : ℕ) → TicksAtMost p m → (slots : List ℕ) (kind : TrapKind) (o : Whole ⊎ Fallen) → Known others slots (Trap kind) o → length slots ≤ step_bound T z m
+  steps_of_trap others z m most slots kind (inl h) k = steps_bound T z (ticks_of h.acts) m (length slots) (omega (arith, k.1, h.bound)) (most (mine h.acts) h.world (whole_run h))
+  steps_of_trap others z m most slots kind (inr h) k = steps_bound T z (ticks_of h.acts) m (length slots) (omega (arith, k.1, h.bound)) (most (mine h.acts) h.world (fallen_run h))
 
-  words_at : (others : ℕ) (st : State) (m : Conf) → st ≡ state_of others m → P m → live_words st ≤ word_bound (words_of_globals p) T (suc others)
-  words_at others st m e small =
+  words_at : (others : List Slot) (z : ℕ) (st : State) (m : Conf) → st ≡ state_of others m → P m → live_words st ≤ word_bound (words_of_globals p) T z
+  words_at others z st m e small =
       let there : live_words st ≤ n + cells = subst (λ s. live_words s ≤ n + cells) (sym e) small in
-      words_bound (words_of_globals p) T (suc others) (live_words st) (omega (arith, there, one_each p.globals tr.cells, waiting_largest p.body))
+      words_bound (words_of_globals p) T z (live_words st) (omega (arith, there, one_each p.globals tr.cells, waiting_largest p.body))
 
-  words_of : (others : ℕ) (slots : List ℕ) (st : State) (o : Whole ⊎ Fallen) → Known others slots (At st) o → live_words st ≤ word_bound (words_of_globals p) T (suc others)
-  words_of others slots st (inl h) k = words_at others st k.0 k.1 k.2
-  words_of others slots st (inr h) k = words_at others st k.0 k.1 k.2
+  words_of : (others : List Slot) (z : ℕ) (slots : List ℕ) (st : State) (o : Whole ⊎ Fallen) → Known others slots (At st) o → live_words st ≤ word_bound (words_of_globals p) T z
+  words_of others z slots st (inl h) k = words_at others z st k.0 k.1 k.2
+  words_of others z slots st (inr h) k = words_at others z st k.0 k.1 k.2
 
-  numbers_of : (others : ℕ) (slots : List ℕ) (st : State) (o : Whole ⊎ Fallen) → Known others slots (At st) o → (s : ℕ) → step c s st ≡ Spent → ⊥
+  numbers_of : (others : List Slot) (slots : List ℕ) (st : State) (o : Whole ⊎ Fallen) → Known others slots (At st) o → (s : ℕ) → step c s st ≡ Spent → ⊥
   numbers_of others slots st (inl h) k = k.6
   numbers_of others slots st (inr h) k = k.6
 
   -- what is printed where the way ends has been printed by a source run
-  output_at : (others m : ℕ) → PrintsAtMost p m → (st : State) (here d : Conf) (l : List (ℕ × Action)) (v : World) → st ≡ state_of others here → Rest c P here d → d.world.out ≡ v.out → SourceRun p l v → length st.world.out ≤ m
+  output_at : (others : List Slot) (m : ℕ) → PrintsAtMost p m → (st : State) (here d : Conf) (l : List (ℕ × Action)) (v : World) → st ≡ state_of others here → Rest c P here d → d.world.out ≡ v.out → SourceRun p l v → length st.world.out ≤ m
   output_at others m most st here d l v e rest same source =
       let now : length st.world.out ≡ length here.world.out = ap (λ (s : State). length s.world.out) e in
       let then : length d.world.out ≡ length v.out = ap length same in
       omega (arith, now, then, way_grows c P rest.0 here d rest.1, most l v source)
 
-  output_of : (others m : ℕ) → PrintsAtMost p m → (slots : List ℕ) (st : State) (o : Whole ⊎ Fallen) → Known others slots (At st) o → length st.world.out ≤ m
+  output_of : (others : List Slot) (m : ℕ) → PrintsAtMost p m → (slots : List ℕ) (st : State) (o : Whole ⊎ Fallen) → Known others slots (At st) o → length st.world.out ≤ m
   output_of others m most slots st (inl h) k = output_at others m most st k.0 (conf Empty h.world (suc n)) (mine h.acts) h.world k.1 k.7 refl (whole_run h)
   output_of others m most slots st (inr h) k = output_at others m most st k.0 h.place (mine h.acts) h.world k.1 k.7 h.printed (fallen_run h)
 
   pub ends : Ends p c
   ends = record { steps = steps; steps_to_trap = steps_to_trap; words = words; numbers = numbers; output = output }
     where
-      steps : (streams m : ℕ) → IsCount streams → TicksAtMost p m → (slots : List ℕ) (st : State) → run c slots (start c streams) ≡ At st → length slots ≤ step_bound T streams m
-      steps zero m count most slots st e = absurd (omega (arith, count.0))
-      steps (suc others) m count most slots st e = steps_of others m most slots st outcome (known_of others slots (At st) e)
+      steps : (q k m : ℕ) → IsMachine q k → TicksAtMost p m → (slots : List ℕ) (st : State) → run c slots (start c q k) ≡ At st → length slots ≤ step_bound T (q * k) m
+      steps q k m machine most slots st e =
+          let h = known_of q k machine slots (At st) e in
+          steps_of h.0 (q * k) m most slots st outcome h.1
 
-      steps_to_trap : (streams m : ℕ) → IsCount streams → TicksAtMost p m → (slots : List ℕ) (kind : TrapKind) → run c slots (start c streams) ≡ Trap kind → length slots ≤ step_bound T streams m
-      steps_to_trap zero m count most slots kind e = absurd (omega (arith, count.0))
-      steps_to_trap (suc others) m count most slots kind e = steps_of_trap others m most slots kind outcome (known_of others slots (Trap kind) e)
+      steps_to_trap : (q k m : ℕ) → IsMachine q k → TicksAtMost p m → (slots : List ℕ) (kind : TrapKind) → run c slots (start c q k) ≡ Trap kind → length slots ≤ step_bound T (q * k) m
+      steps_to_trap q k m machine most slots kind e =
+          let h = known_of q k machine slots (Trap kind) e in
+          steps_of_trap h.0 (q * k) m most slots kind outcome h.1
 
-      words : (streams : ℕ) → IsCount streams → (slots : List ℕ) (st : State) → run c slots (start c streams) ≡ At st → live_words st ≤ word_bound (words_of_globals p) T streams
-      words zero count slots st e = absurd (omega (arith, count.0))
-      words (suc others) count slots st e = words_of others slots st outcome (known_of others slots (At st) e)
+      words : (q k : ℕ) → IsMachine q k → (slots : List ℕ) (st : State) → run c slots (start c q k) ≡ At st → live_words st ≤ word_bound (words_of_globals p) T (q * k)
+      words q k machine slots st e =
+          let h = known_of q k machine slots (At st) e in
+          words_of h.0 (q * k) slots st outcome h.1
 
-      numbers : (streams : ℕ) → IsCount streams → (slots : List ℕ) (st : State) → run c slots (start c streams) ≡ At st → (s : ℕ) → step c s st ≡ Spent → ⊥
-      numbers zero count slots st e = absurd (omega (arith, count.0))
-      numbers (suc others) count slots st e = numbers_of others slots st outcome (known_of others slots (At st) e)
+      numbers : (q k : ℕ) → IsMachine q k → (slots : List ℕ) (st : State) → run c slots (start c q k) ≡ At st → (s : ℕ) → step c s st ≡ Spent → ⊥
+      numbers q k machine slots st e =
+          let h = known_of q k machine slots (At st) e in
+          numbers_of h.0 slots st outcome h.1
 
-      output : (streams m : ℕ) → IsCount streams → PrintsAtMost p m → (slots : List ℕ) (st : State) → run c slots (start c streams) ≡ At st → length st.world.out ≤ m
-      output zero m count most slots st e = absurd (omega (arith, count.0))
-      output (suc others) m count most slots st e = output_of others m most slots st outcome (known_of others slots (At st) e)
+      output : (q k m : ℕ) → IsMachine q k → PrintsAtMost p m → (slots : List ℕ) (st : State) → run c slots (start c q k) ≡ At st → length st.world.out ≤ m
+      output q k m machine most slots st e =
+          let h = known_of q k machine slots (At st) e in
+          output_of h.0 m most slots st outcome h.1

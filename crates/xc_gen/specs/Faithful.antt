@@ -9,25 +9,25 @@ use Rattle.xc_isa.specs.Runs.{At, Trap, run}
 use Rattle.xc_meaning.specs.Terms.{Term, Number, Read, Write, Update, Unary, Binary, And, Or, Cond, Comma, Print, Terms, NoMore, More, Command, Empty, Eval, Block, Return, Commands, End, Then, Program}
 use Rattle.xc_meaning.specs.Source.{SourceRun, HasEnded}
 
--- a number of streams that a machine may have
-abbrev pub IsCount : ℕ → Type 0
-IsCount streams = (1 ≤ streams) × (streams ≤ 1024)
+-- a machine: 1 to 64 processors, each of 1 to 128 streams
+abbrev pub IsMachine : ℕ → ℕ → Type 0
+IsMachine processors streams = ((1 ≤ processors) × (processors ≤ 64)) × ((1 ≤ streams) × (streams ≤ 128))
 
 -- the same output, and the same cells of the globals, values and states
 abbrev pub SameResult : ℕ → World → World → Type 0
 SameResult globals v w = (v.out ≡ w.out) × ((g : ℕ) → g ≤ globals → v.segs g ≡ w.segs g)
 
--- For every number of streams and every interleaving, a run of the code that has ended has the result of a source run that has
+-- For every number of processors and streams and every interleaving, a run of the code that has ended has the result of a source run that has
 -- ended, and a run that has trapped has a source run that has trapped.
 pub record Faithful (p : Program) (c : Code) : Type 0 where
-  pub ends : (streams : ℕ) → IsCount streams → (slots : List ℕ) (st : State) → run c slots (start c streams) ≡ At st → HasQuit st →
+  pub ends : (processors streams : ℕ) → IsMachine processors streams → (slots : List ℕ) (st : State) → run c slots (start c processors streams) ≡ At st → HasQuit st →
       (l : List (ℕ × Action)) × (v : World) × SourceRun p l v × HasEnded p l × SameResult (length p.globals) v st.world
-  pub traps : (streams : ℕ) → IsCount streams → (slots : List ℕ) (kind : TrapKind) → run c slots (start c streams) ≡ Trap kind →
+  pub traps : (processors streams : ℕ) → IsMachine processors streams → (slots : List ℕ) (kind : TrapKind) → run c slots (start c processors streams) ≡ Trap kind →
       (l : List (ℕ × Action)) × (v : World) × SourceRun p l v × HasTrapped l
 
 -- In every state that a run reaches, all slots are free or some stream is ready.
 pub record NoStuck (c : Code) : Type 0 where
-  pub ready : (streams : ℕ) → IsCount streams → (slots : List ℕ) (st : State) → run c slots (start c streams) ≡ At st →
+  pub ready : (processors streams : ℕ) → IsMachine processors streams → (slots : List ℕ) (st : State) → run c slots (start c processors streams) ≡ At st →
       HasQuit st ⊎ ((s : ℕ) × IsReady c s st)
 
 -- ---- bounds
@@ -87,12 +87,12 @@ word_bound globals t streams = globals + 16 * (t + 8) * (streams + 1) * 3
 -- No run is longer than its source's ticks allow, none has more live words than the bound, none comes to a step for which the
 -- numbers of segments are spent, and none prints more than source runs do.
 pub record Ends (p : Program) (c : Code) : Type 0 where
-  pub steps : (streams n : ℕ) → IsCount streams → TicksAtMost p n → (slots : List ℕ) (st : State) → run c slots (start c streams) ≡ At st →
-      length slots ≤ step_bound (largest p.body) streams n
-  pub steps_to_trap : (streams n : ℕ) → IsCount streams → TicksAtMost p n → (slots : List ℕ) (kind : TrapKind) → run c slots (start c streams) ≡ Trap kind →
-      length slots ≤ step_bound (largest p.body) streams n
-  pub words : (streams : ℕ) → IsCount streams → (slots : List ℕ) (st : State) → run c slots (start c streams) ≡ At st →
-      live_words st ≤ word_bound (words_of_globals p) (largest p.body) streams
-  pub numbers : (streams : ℕ) → IsCount streams → (slots : List ℕ) (st : State) → run c slots (start c streams) ≡ At st → (s : ℕ) → step c s st ≡ Spent → ⊥
-  pub output : (streams n : ℕ) → IsCount streams → PrintsAtMost p n → (slots : List ℕ) (st : State) → run c slots (start c streams) ≡ At st →
+  pub steps : (processors streams n : ℕ) → IsMachine processors streams → TicksAtMost p n → (slots : List ℕ) (st : State) → run c slots (start c processors streams) ≡ At st →
+      length slots ≤ step_bound (largest p.body) (processors * streams) n
+  pub steps_to_trap : (processors streams n : ℕ) → IsMachine processors streams → TicksAtMost p n → (slots : List ℕ) (kind : TrapKind) → run c slots (start c processors streams) ≡ Trap kind →
+      length slots ≤ step_bound (largest p.body) (processors * streams) n
+  pub words : (processors streams : ℕ) → IsMachine processors streams → (slots : List ℕ) (st : State) → run c slots (start c processors streams) ≡ At st →
+      live_words st ≤ word_bound (words_of_globals p) (largest p.body) (processors * streams)
+  pub numbers : (processors streams : ℕ) → IsMachine processors streams → (slots : List ℕ) (st : State) → run c slots (start c processors streams) ≡ At st → (s : ℕ) → step c s st ≡ Spent → ⊥
+  pub output : (processors streams n : ℕ) → IsMachine processors streams → PrintsAtMost p n → (slots : List ℕ) (st : State) → run c slots (start c processors streams) ≡ At st →
       length st.world.out ≤ n

@@ -1,7 +1,7 @@
 -- Every run of the machine stands for actions of its threads.
 use Rattle.std.proofs.Common.{◌≡◌, ◌≤◌, ◌+◌, ℕ, zero, suc, ◌<◌, List, [], ◌∷◌, ◌++◌, length, Option, Some, None, refl, sym, ap, ◌∙◌, subst, arith, inl, ⊎_elim, append-nil, append_assoc}
 use mathlib.Core.Path.{fun_ext}
-use Rattle.std.specs.Prelude.{slice_get, replicate, map, unwrap_or}
+use Rattle.std.specs.Prelude.{slice_get, slice_set, map, unwrap_or}
 use Rattle.std.proofs.lemmas.Option.{slice_get_past}
 use Rattle.std.proofs.lemmas.List.{length-map}
 use Rattle.xc_word.specs.declared.memory.Cell.{Cell}
@@ -11,20 +11,16 @@ use Rattle.xc_isa.specs.declared.code.Code.{Code}
 use Rattle.xc_isa.specs.Texts.{cells_of}
 use Rattle.xc_isa.specs.Effects.{Regs, effect}
 use Rattle.xc_isa.specs.Machine as machine
-use Rattle.xc_isa.specs.Machine.{Slot, Empty, Live, State, After, in_slot, step, start}
+use Rattle.xc_isa.specs.Machine.{Slot, Absent, Empty, Live, State, After, free_slots, in_slot, step, start}
+use Rattle.xc_isa.proofs.Slots.{start_live, start_one}
 use Rattle.xc_isa.specs.Runs as ran
 use Rattle.xc_isa.specs.Runs.{Ran, onward, run}
 use Rattle.xc_isa_streams.specs.Class.{Class}
 use Rattle.xc_isa_streams.specs.Parts.{Act, act}
-use Rattle.xc_isa_streams.specs.Promises.{globals_of, first_parts, AlwaysOwn, AlwaysFair, view, parted, own_view, Seats, Core, Stage, Stood, Fallen, Moves, goes, quits, acts, StepsTo, StoodOn}
+use Rattle.xc_isa_streams.specs.Promises.{globals_of, first_parts, HasSlots, AlwaysOwn, AlwaysFair, view, parted, own_view, Seats, Core, Stage, Stood, Fallen, Moves, goes, quits, acts, StepsTo, StoodOn}
 use Rattle.xc_isa_streams.proofs.Views.{view_mine, view_none}
 use Rattle.xc_isa_streams.proofs.Cores.{core_new}
 use Rattle.xc_isa_streams.proofs.Steps.{takes_inv}
-
-all_free : (n s pc : ℕ) (r : Regs) → slice_get (replicate n Empty) s ≡ Some (Live pc r) → ⊥
-all_free zero s pc r h = cc
-all_free (suc n) zero pc r h = cc
-all_free (suc n) (suc s) pc r h = all_free n s pc r h
 
 -- no segment past the globals is live
 pub globals_high : (globals : List (List Cell)) (g : ℕ) → length globals < g → segs_of globals g ≡ []
@@ -50,19 +46,35 @@ module _ (of : ℕ → Class) (code : Code) where
       ap (λ m. record { source = record { segs = m; out = [] }; side = λ g. [] }) (whole first_world.segs)
       ∙ ap (λ m. record { source = record { segs = view 0 first_owner first_world.segs; out = [] }; side = m }) (sym (nothing 0 first_world.segs))
 
-  first_live : (n s pc : ℕ) (r : Regs) → slice_get (Live 0 (put (λ x. 0) 1 0) ∷ replicate n Empty) s ≡ Some (Live pc r) → s ≡ 0
-  first_live n zero pc r h = refl
-  first_live n (suc s) pc r h = absurd (all_free n s pc r h)
+  abbrev first_slots : ℕ → ℕ → Regs → List Slot
+  first_slots q n r = slice_set (free_slots q n) 0 (Live 0 r)
 
-  first_seats : (n : ℕ) → Seats (Live 0 (put (λ x. 0) 1 0) ∷ replicate n Empty) (λ s. s) (Live 0 (put (λ x. 0) 1 0) ∷ [])
-  first_seats n = record { live = live; one = λ s s' pc pc' r r' h h' q. q; found = found }
+  -- all registers are 0
+  abbrev no_regs : Regs
+  no_regs x = 0
+
+  same_regs : no_regs ≡ put no_regs 1 0
+  same_regs = sym (put_same no_regs 1 0 refl)
+
+  first_live : (q n : ℕ) → HasSlots q n → slice_get (first_slots q n (put (λ x. 0) 1 0)) 0 ≡ Some (Live 0 (put (λ x. 0) 1 0))
+  first_live q n has = subst (λ r. slice_get (first_slots q n r) 0 ≡ Some (Live 0 r)) same_regs (start_live code q n has.0 has.1 has.2)
+
+  first_one : (q n s pc : ℕ) (r : Regs) → slice_get (first_slots q n (put (λ x. 0) 1 0)) s ≡ Some (Live pc r) → s ≡ 0
+  first_one q n s pc r h = start_one code q n s pc r (subst (λ u. slice_get (first_slots q n u) s ≡ Some (Live pc r)) (sym same_regs) h)
+
+  first_seats : (q n : ℕ) → HasSlots q n → Seats (first_slots q n (put (λ x. 0) 1 0)) (λ s. s) (Live 0 (put (λ x. 0) 1 0) ∷ [])
+  first_seats q n has = record {
+    live = λ s pc r h. live s pc r (first_one q n s pc r h) h;
+    one = λ s s' pc pc' r r' h h' e. e;
+    found = found;
+  }
     where
-      live : (s pc : ℕ) (r : Regs) → slice_get (Live 0 (put (λ x. 0) 1 0) ∷ replicate n Empty) s ≡ Some (Live pc r) → slice_get (Live 0 (put (λ x. 0) 1 0) ∷ []) s ≡ Some (Live pc r)
-      live zero pc r h = h
-      live (suc s) pc r h = absurd (all_free n s pc r h)
+      live : (s pc : ℕ) (r : Regs) → s ≡ 0 → slice_get (first_slots q n (put (λ x. 0) 1 0)) s ≡ Some (Live pc r) → slice_get (Live 0 (put (λ x. 0) 1 0) ∷ []) s ≡ Some (Live pc r)
+      live zero pc r e h = sym (first_live q n has) ∙ h
+      live (suc s) pc r e h = absurd (omega (arith, e))
 
-      found : (a pc : ℕ) (r : Regs) → slice_get (Live 0 (put (λ x. 0) 1 0) ∷ []) a ≡ Some (Live pc r) → (s : ℕ) × (slice_get (Live 0 (put (λ x. 0) 1 0) ∷ replicate n Empty) s ≡ Some (Live pc r)) × (s ≡ a)
-      found zero pc r h = (0, h, refl)
+      found : (a pc : ℕ) (r : Regs) → slice_get (Live 0 (put (λ x. 0) 1 0) ∷ []) a ≡ Some (Live pc r) → (s : ℕ) × (slice_get (first_slots q n (put (λ x. 0) 1 0)) s ≡ Some (Live pc r)) × (s ≡ a)
+      found zero pc r h = (0, first_live q n has ∙ h, refl)
       found (suc a) pc r h = cc
 
   first_core : Core of code (Live 0 (put (λ x. 0) 1 0) ∷ []) (0 ∷ []) (λ a. own_view a first_owner first_world.segs) (globals_of code) ((0, 0) ∷ []) []
@@ -71,14 +83,14 @@ module _ (of : ℕ → Class) (code : Code) where
   first_high : (g : ℕ) → globals_of code < g → first_world.segs g ≡ []
   first_high g lt = globals_high (map cells_of code.globals) g (omega (arith, lt, length-map code.globals cells_of))
 
-  abbrev unread_stage : (n : ℕ) → Stage of code (Live 0 (put (λ x. 0) 1 0) ∷ replicate n Empty) first_world (globals_of code) 0
-  unread_stage n = record {
+  abbrev unread_stage : (q n : ℕ) → HasSlots q n → Stage of code (first_slots q n (put (λ x. 0) 1 0)) first_world (globals_of code) 0
+  unread_stage q n has = record {
     l = [];
     names = λ s. s;
     acts = Live 0 (put (λ x. 0) 1 0) ∷ [];
     steps = 0 ∷ [];
     owner = first_owner;
-    seats = first_seats n;
+    seats = first_seats q n has;
     core = first_core;
     in_turn = tt;
     alive = tt;
@@ -93,16 +105,15 @@ module _ (of : ℕ → Class) (code : Code) where
   }
 
   -- the machine starts with all registers 0
-  pub first_stage : (n : ℕ) → 1 ≤ n → (g : Stage of code (start code n).slots (start code n).world (start code n).last 0) × (g.l ≡ [])
-  first_stage zero one = absurd (omega arith)
-  first_stage (suc n) one = subst (λ r. (g : Stage of code (Live 0 r ∷ replicate n Empty) first_world (globals_of code) 0) × (g.l ≡ [])) (put_same (λ x. 0) 1 0 refl) (unread_stage n, refl)
+  pub first_stage : (q n : ℕ) → HasSlots q n → (g : Stage of code (start code q n).slots (start code q n).world (start code q n).last 0) × (g.l ≡ [])
+  first_stage q n has = subst (λ r. (g : Stage of code (first_slots q n r) first_world (globals_of code) 0) × (g.l ≡ [])) (sym same_regs) (unread_stage q n has, refl)
 
   -- ---- a list that goes on another one
 
-  grown : (slots slots' : List Slot) (s i : ℕ) (l l' : List (ℕ × Act)) → Moves slots slots' s i l l' → (t : List (ℕ × Act)) × (l' ≡ l ++ t)
-  grown slots slots' s i l l' (goes e f) = ([], e ∙ sym (append-nil l))
+  grown : (slots slots' : List Slot) (s i : ℕ) (l l' : List (ℕ × Act)) → Moves of code slots slots' s i l l' → (t : List (ℕ × Act)) × (l' ≡ l ++ t)
+  grown slots slots' s i l l' (goes e f pc r h) = ([], e ∙ sym (append-nil l))
   grown slots slots' s i l l' (quits e f q) = ([], e ∙ sym (append-nil l))
-  grown slots slots' s i l l' (acts k v e a f) = ((i, act k (Got v)) ∷ [], e)
+  grown slots slots' s i l l' (acts k v e a b f) = ((i, act k (Got v)) ∷ [], e)
 
   stood_under : (l l' t : List (ℕ × Act)) (made : ℕ) (x : Ran) → l' ≡ l ++ t → StoodOn of code l' made x → StoodOn of code l made x
   stood_under l l' t made (ran.At st) e h = (h.0, t ++ h.1, h.2 ∙ ap (λ u. u ++ h.1) e ∙ append_assoc l t h.1)
@@ -128,6 +139,7 @@ module _ (of : ℕ → Class) (code : Code) where
   module _ (always : AlwaysOwn of code) (fair : AlwaysFair of code) where
     slot_inv : (s : ℕ) (slots : List Slot) (w : World) (last made : ℕ) (g : Stage of code slots w last made) (o : Option Slot) → slice_get slots s ≡ o → StepsTo of code slots w last made g s (in_slot code o s slots w last)
     slot_inv s slots w last made g None here = tt
+    slot_inv s slots w last made g (Some Absent) here = tt
     slot_inv s slots w last made g (Some Empty) here = tt
     slot_inv s slots w last made g (Some (Live pc r)) here = takes_inv of code always fair s pc r slots w last made g here (effect code.formats (slice_get code.instrs pc) pc r) refl
 
@@ -141,8 +153,8 @@ module _ (of : ℕ → Class) (code : Code) where
         subst (λ n. StoodOn of code g.l n (run code (s ∷ ss) st)) n
         (after_step st.slots st.world st.last made g s ss (step code s st) (run code ss) (steps_to st made g s) (λ st g. onward_from st (suc made) g ss))
 
-    pub projected : (n : ℕ) → 1 ≤ n → (ss : List ℕ) → Stood of code (length ss) (run code ss (start code n))
-    projected n one ss =
+    pub projected : (q n : ℕ) → HasSlots q n → (ss : List ℕ) → Stood of code (length ss) (run code ss (start code q n))
+    projected q n has ss =
         let k : length ss + 0 ≡ length ss = omega arith in
-        let g = first_stage n one in
-        subst (λ k. Stood of code k (run code ss (start code n))) k (stood_of g.0.l (length ss + 0) (run code ss (start code n)) (onward_from (start code n) 0 g.0 ss))
+        let g = first_stage q n has in
+        subst (λ k. Stood of code k (run code ss (start code q n))) k (stood_of g.0.l (length ss + 0) (run code ss (start code q n)) (onward_from (start code q n) 0 g.0 ss))

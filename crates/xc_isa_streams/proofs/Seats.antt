@@ -1,12 +1,12 @@
 -- Who sits in the slots, when a stream changes and when one starts.
-use Rattle.std.proofs.Common.{◌≡◌, ℕ, zero, suc, ◌+◌, ◌<◌, List, [], ◌∷◌, ◌++◌, length, Option, Some, None, refl, sym, ap, ◌∙◌, subst, arith, ⊎_elim}
+use Rattle.std.proofs.Common.{◌≡◌, ℕ, zero, suc, ◌+◌, ◌<◌, ◌≤◌, List, [], ◌∷◌, ◌++◌, length, Option, Some, None, refl, sym, ap, ◌∙◌, subst, arith, ⊎_elim}
 use Rattle.std.specs.Prelude.{slice_get, slice_set}
-use Rattle.std.specs.Option.{option_map}
 use Rattle.std.proofs.lemmas.Option.{slice_get_within}
 use Rattle.xc_meaning_world.specs.World.{put}
 use Rattle.xc_meaning_world.proofs.Puts.{by_same, put_at, put_other, get_set_same, get_set_other}
 use Rattle.xc_isa.specs.Effects.{Regs}
-use Rattle.xc_isa.specs.Machine.{Slot, Empty, Live, free_slot}
+use Rattle.xc_isa.specs.Machine.{Slot, Absent, Empty, Live, free_slot}
+use Rattle.xc_isa.proofs.Slots.{free_slot_is_free, none_is_free}
 use Rattle.xc_isa_streams.specs.Promises.{Seats, frees, answer}
 use Rattle.xc_isa_streams.proofs.Lists.{get_left, get_last, get_cases}
 
@@ -14,48 +14,54 @@ abbrev pub answer_of : Option ℕ → ℕ
 answer_of None = 0
 answer_of (Some f) = 1
 
--- the lowest free slot is free
-pub free_is : (xs : List Slot) (f : ℕ) → free_slot xs ≡ Some f → slice_get xs f ≡ Some Empty
-free_is [] f h = cc
-free_is (Empty ∷ xs) f h = let e : 0 ≡ f = cc in subst (λ n. slice_get (Empty ∷ xs) n ≡ Some Empty) e refl
-free_is (Live pc r ∷ xs) f h = at (λ n e. free_is xs n e) (free_slot xs) refl h
-  where
-    at : ((n : ℕ) → free_slot xs ≡ Some n → slice_get xs n ≡ Some Empty) → (o : Option ℕ) → free_slot xs ≡ o → option_map suc o ≡ Some f → slice_get (Live pc r ∷ xs) f ≡ Some Empty
-    at more None e h = cc
-    at more (Some n) e h = let s : suc n ≡ f = cc in subst (λ n. slice_get (Live pc r ∷ xs) n ≡ Some Empty) s (more n e)
+-- a slot that is free counts
+counts : (xs : List Slot) (f : ℕ) → slice_get xs f ≡ Some Empty → 1 ≤ frees xs
+counts [] f h = cc
+counts (Absent ∷ xs) zero h = cc
+counts (Absent ∷ xs) (suc f) h = counts xs f h
+counts (Empty ∷ xs) f h = omega arith
+counts (Live pc r ∷ xs) zero h = cc
+counts (Live pc r ∷ xs) (suc f) h = counts xs f h
+
+none_counts : (xs : List Slot) → ((s : ℕ) → slice_get xs s ≡ Some Empty → ⊥) → frees xs ≡ 0
+none_counts [] h = refl
+none_counts (Absent ∷ xs) h = none_counts xs (λ s. h (suc s))
+none_counts (Empty ∷ xs) h = absurd (h 0 refl)
+none_counts (Live pc r ∷ xs) h = none_counts xs (λ s. h (suc s))
+
+is_one : (n : ℕ) → 1 ≤ n → answer n ≡ 1
+is_one zero h = absurd (omega (arith, h))
+is_one (suc n) h = refl
 
 -- where none is free, none is counted, and else one at least
 pub frees_as : (xs : List Slot) (o : Option ℕ) → free_slot xs ≡ o → answer (frees xs) ≡ answer_of o
-frees_as [] None h = refl
-frees_as [] (Some f) h = cc
-frees_as (Empty ∷ xs) None h = cc
-frees_as (Empty ∷ xs) (Some f) h = refl
-frees_as (Live pc r ∷ xs) o h = at (λ p e. frees_as xs p e) (free_slot xs) refl o h
-  where
-    at : ((p : Option ℕ) → free_slot xs ≡ p → answer (frees xs) ≡ answer_of p) → (p : Option ℕ) → free_slot xs ≡ p → (o : Option ℕ) → option_map suc p ≡ o → answer (frees xs) ≡ answer_of o
-    at more None e None h = more None e
-    at more None e (Some f) h = cc
-    at more (Some n) e None h = cc
-    at more (Some n) e (Some f) h = more (Some n) e
+frees_as xs None h = ap answer (none_counts xs (none_is_free xs h))
+frees_as xs (Some f) h = is_one (frees xs) (counts xs f (free_slot_is_free xs f h))
 
 pub frees_live : (xs : List Slot) (s pc pc' : ℕ) (r r' : Regs) → slice_get xs s ≡ Some (Live pc r) → frees (slice_set xs s (Live pc' r')) ≡ frees xs
 frees_live [] s pc pc' r r' h = cc
+frees_live (Absent ∷ xs) zero pc pc' r r' h = cc
 frees_live (Empty ∷ xs) zero pc pc' r r' h = cc
 frees_live (Live q u ∷ xs) zero pc pc' r r' h = refl
+frees_live (Absent ∷ xs) (suc s) pc pc' r r' h = frees_live xs s pc pc' r r' h
 frees_live (Empty ∷ xs) (suc s) pc pc' r r' h = ap suc (frees_live xs s pc pc' r r' h)
 frees_live (Live q u ∷ xs) (suc s) pc pc' r r' h = frees_live xs s pc pc' r r' h
 
 pub frees_quit : (xs : List Slot) (s pc : ℕ) (r : Regs) → slice_get xs s ≡ Some (Live pc r) → frees (slice_set xs s Empty) ≡ suc (frees xs)
 frees_quit [] s pc r h = cc
+frees_quit (Absent ∷ xs) zero pc r h = cc
 frees_quit (Empty ∷ xs) zero pc r h = cc
 frees_quit (Live q u ∷ xs) zero pc r h = refl
+frees_quit (Absent ∷ xs) (suc s) pc r h = frees_quit xs s pc r h
 frees_quit (Empty ∷ xs) (suc s) pc r h = ap suc (frees_quit xs s pc r h)
 frees_quit (Live q u ∷ xs) (suc s) pc r h = frees_quit xs s pc r h
 
 pub frees_start : (xs : List Slot) (s pc : ℕ) (r : Regs) → slice_get xs s ≡ Some Empty → frees (slice_set xs s (Live pc r)) + 1 ≡ frees xs
 frees_start [] s pc r h = cc
+frees_start (Absent ∷ xs) zero pc r h = cc
 frees_start (Empty ∷ xs) zero pc r h = omega arith
 frees_start (Live q u ∷ xs) zero pc r h = cc
+frees_start (Absent ∷ xs) (suc s) pc r h = frees_start xs s pc r h
 frees_start (Empty ∷ xs) (suc s) pc r h = let e = frees_start xs s pc r h in omega (arith, e)
 frees_start (Live q u ∷ xs) (suc s) pc r h = frees_start xs s pc r h
 

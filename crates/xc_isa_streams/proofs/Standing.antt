@@ -4,7 +4,7 @@ use Rattle.std.proofs.lemmas.List.{map-append}
 use Rattle.xc_meaning_world.specs.World.{Segs, Touch, Reach, New, Free, Reply, put, op, seg_of}
 use Rattle.xc_isa.specs.declared.code.Code.{Code}
 use Rattle.xc_isa.specs.Effects.{Regs}
-use Rattle.xc_isa.specs.Machine.{Slot, Empty, Live, last_of_touch}
+use Rattle.xc_isa.specs.Machine.{Slot, Absent, Empty, Live, last_of_touch}
 use Rattle.xc_isa_streams.specs.Class.{Class}
 use Rattle.xc_isa_streams.specs.Parts.{Ask, Act, act}
 use Rattle.xc_isa_streams.specs.Local.{Fault, Own, own_of, first_own, Next, hid, privately, local, local_from, end_trace, replies_of, Going, IsOver}
@@ -146,6 +146,7 @@ module _ (of : ℕ → Class) (code : Code) (at arg : ℕ) where
   }
 
   pub shows_slot : (k : ℕ) (slot : Slot) (o : Own) (t : List Act) → end_trace (now of code k slot o [] t) ≡ t
+  shows_slot k Absent o t = refl
   shows_slot k Empty o t = refl
   shows_slot k (Live pc r) o t = no_reply of code k pc r o t
 

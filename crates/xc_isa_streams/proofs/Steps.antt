@@ -12,13 +12,14 @@ use Rattle.xc_isa.specs.declared.code.Code.{Code}
 use Rattle.xc_isa.specs.Effects.{Regs, Effect, Goes, Asks, Faults, Quits, effect}
 use Rattle.xc_isa.specs.Machine as machine
 use Rattle.xc_isa.specs.Machine.{Slot, Empty, Live, After, At, Trap, Waits, Spent, last_of_touch, last_after, with_slot, numbered, served, free_slot, starts, takes}
+use Rattle.xc_isa.proofs.Slots.{free_slot_is_free}
 use Rattle.xc_isa_streams.specs.Class.{Class, Source, Private, Shared, in_place}
 use Rattle.xc_isa_streams.specs.Parts.{Ask, Of, Side, Act, act, AllowsIn, request_of, IsAbove, up, Serves, Alive, MakesBy, Makes, SideMakes, SideMade, Known, FairTouch, Fair, begun, begun_in, threads_in, InTurn}
 use Rattle.xc_isa_streams.specs.Local.{Bad, Own, own_of, asked, hid, asks, does, local, replies_of, local_from}
-use Rattle.xc_isa_streams.specs.Promises.{globals_of, first_parts, CanStart, Shows, Shown, AlwaysOwn, AsksNext, AlwaysFair, view, parted, own_view, now, upto, Stands, Core, total, Stage, frees, AsFree, Moves, goes, quits, acts, Further, Falls, StepsTo}
-use Rattle.xc_isa_streams.proofs.Lists.{part_same, part_other, made_more, side_more, begun_more, alive_more, in_turn_more, serves_more, serves_up}
+use Rattle.xc_isa_streams.specs.Promises.{globals_of, first_parts, CanStart, Shows, Shown, AsksBy, AlwaysOwn, AsksNext, AlwaysFair, view, parted, own_view, now, upto, Stands, Core, total, Stage, frees, AsFree, Moves, goes, quits, acts, Further, Falls, StepsTo}
+use Rattle.xc_isa_streams.proofs.Lists.{get_left, part_same, part_other, made_more, side_more, begun_more, alive_more, in_turn_more, serves_more, serves_up}
 use Rattle.xc_isa_streams.proofs.Views.{view_mine, view_not, view_none, view_put, view_skip, given, given_old, given_view, given_above, given_below, given_by, by_old, by_view, touch_grows, last_grows, by_above, by_below, some_fst, some_snd, Mine, allows_parted, allows_others, touch_high, allows_high}
-use Rattle.xc_isa_streams.proofs.Seats.{free_is, frees_as, frees_live, frees_quit, frees_start, seats_put, seats_new}
+use Rattle.xc_isa_streams.proofs.Seats.{frees_as, frees_live, frees_quit, frees_start, seats_put, seats_new}
 use Rattle.xc_isa_streams.proofs.Standing.{numbers_from, fresh_from, nums_for, fresh_for, privately_is, stands_on, stands_hid, stands_more, stands_up, shows, shows_fault, shows_with}
 use Rattle.xc_isa_streams.proofs.Cores.{bump, bump_same, bump_other, bump_total, total_more, is_here, not_here, core_set, core_new}
 
@@ -135,10 +136,11 @@ module _ (of : ℕ → Class) (code : Code) (always : AlwaysOwn of code) (fair :
     bumped = bump_total g.steps i counted ∙ ap suc g.all_steps
 
     -- the thread has become this slot, and no thread has begun
-    changed : (slot : Slot) (w' : World) (last' : ℕ) (owner' : ℕ → ℕ) (l' : List (ℕ × Act)) → threads_in l' ≡ threads_in g.l → last ≤ last' → ((at arg m : ℕ) → Stands of code at arg m (Live pc r) mine_now last so_far → Stands of code at arg (suc m) slot (own_view i owner' w'.segs) last' (part_of i l')) → ((a : ℕ) → (a ≡ i → ⊥) → own_view a owner' w'.segs ≡ own_view a g.owner w.segs) → ((a : ℕ) → (a ≡ i → ⊥) → part_of a l' ≡ part_of a g.l) → InTurn 1 l' → Alive l' → Moves slots (slice_set slots s slot) s i g.l l' → Serves (first_parts code) globals l' (parted owner' w') last' → ((y : ℕ) → Known globals l' y → (owner' y ≡ 0) × (y ≤ last')) → ((y : ℕ) → SideMade l' y → (owner' y ≡ 1) × (y ≤ last')) → ((y : ℕ) → owner' y < suc (suc (length g.acts))) → ((y : ℕ) → last' < y → owner' y ≡ 0) → ((y : ℕ) → last' < y → w'.segs y ≡ []) → Later (slice_set slots s slot) w' last'
+    changed : (slot : Slot) (w' : World) (last' : ℕ) (owner' : ℕ → ℕ) (l' : List (ℕ × Act)) → threads_in l' ≡ threads_in g.l → last ≤ last' → ((at arg m : ℕ) → Stands of code at arg m (Live pc r) mine_now last so_far → Stands of code at arg (suc m) slot (own_view i owner' w'.segs) last' (part_of i l')) → ((a : ℕ) → (a ≡ i → ⊥) → own_view a owner' w'.segs ≡ own_view a g.owner w.segs) → ((a : ℕ) → (a ≡ i → ⊥) → part_of a l' ≡ part_of a g.l) → InTurn 1 l' → Alive l' → Moves of code slots (slice_set slots s slot) s i g.l l' → Serves (first_parts code) globals l' (parted owner' w') last' → ((y : ℕ) → Known globals l' y → (owner' y ≡ 0) × (y ≤ last')) → ((y : ℕ) → SideMade l' y → (owner' y ≡ 1) × (y ≤ last')) → ((y : ℕ) → owner' y < suc (suc (length g.acts))) → ((y : ℕ) → last' < y → owner' y ≡ 0) → ((y : ℕ) → last' < y → w'.segs y ≡ []) → Later (slice_set slots s slot) w' last'
     changed slot w' last' owner' l' same le mine views parts turn alive moves serves known sides owners above high = record {
       moves = moves;
       kept = λ t pc r h. refl;
+      count = λ m h. bump_same g.steps i m h;
       stage = record {
         l = l';
         names = g.names;
@@ -162,7 +164,7 @@ module _ (of : ℕ → Class) (code : Code) (always : AlwaysOwn of code) (fair :
     }
 
     -- a step with no action
-    silent : (slot : Slot) → ((n : ℕ) (f : ℕ → ℕ) (rs : List Reply) → local of code (suc n) pc r (own_of f mine_now) rs so_far ≡ now of code n slot (own_of f mine_now) rs so_far) → Moves slots (slice_set slots s slot) s i g.l g.l → Later (slice_set slots s slot) w last
+    silent : (slot : Slot) → ((n : ℕ) (f : ℕ → ℕ) (rs : List Reply) → local of code (suc n) pc r (own_of f mine_now) rs so_far ≡ now of code n slot (own_of f mine_now) rs so_far) → Moves of code slots (slice_set slots s slot) s i g.l g.l → Later (slice_set slots s slot) w last
     silent slot f moves = changed slot w last g.owner g.l refl (omega arith) (λ at arg m h. stands_on of code at arg m pc r mine_now last so_far h slot f) (λ a ne. refl) (λ a ne. refl) g.in_turn g.alive moves g.serves g.known g.sides g.owners g.above g.high
 
     -- ---- a request that is an action
@@ -172,6 +174,9 @@ module _ (of : ℕ → Class) (code : Code) (always : AlwaysOwn of code) (fair :
 
     pub dead_next : (k : Ask) (pc' : ℕ) (rf : ℕ → Regs) → Asking k pc' rf → (at arg : ℕ) → slice_get (threads_in g.l) i ≡ Some (at, arg) → (m : ℕ) × (slice_get g.steps i ≡ Some m) × Shows of code at arg (suc m) (so_far ++ act k Dead ∷ [])
     dead_next k pc' rf asking at arg h = let x = stands at arg h in (x.1, x.2, shows_fault of code at arg x.1 pc r mine_now last so_far x.3 k Dead (λ f. asking 0 _ (Dead ∷ []) so_far))
+
+    asks_by : (k : Ask) (pc' : ℕ) (rf : ℕ → Regs) → Asking k pc' rf → AsksBy of code g.l i k
+    asks_by k pc' rf asking = thread (AsksBy of code g.l i k) (λ at arg h. let x = dead_next k pc' rf asking at arg h in record { at = at; arg = arg; m = suc x.0; thread = h; shows = x.2 })
 
     fair_of : (k : Ask) → AsksNext of code g.l k → Fair globals g.l k
     fair_of (Of q) h = fair.source g.l q h
@@ -272,7 +277,7 @@ module _ (of : ℕ → Class) (code : Code) (always : AlwaysOwn of code) (fair :
         (λ a ne. part_other i a (act k (Got v)) g.l ne)
         (in_turn_more g.l 1 i k (Got v) g.in_turn lower)
         (alive_more g.l i k v g.alive)
-        (acts k v refl free (let n = ap length quiet in omega (arith, n, frees_live slots s pc pc' r (rf v) at_slot)))
+        (acts k v refl (asks_by k pc' rf asking) free (let n = ap length quiet in omega (arith, n, frees_live slots s pc pc' r (rf v) at_slot)))
         (serves_next k (Got v) w' new mine e)
         (known_more k v w' e)
         (sides_more k v w' e)
@@ -328,8 +333,9 @@ module _ (of : ℕ → Class) (code : Code) (always : AlwaysOwn of code) (fair :
         let core1 : Core of code acts1 (bump g.steps i) own last (threads_in g.l) l' = core_set of code (threads_in g.l) g.acts g.steps own last g.l g.core i pc r here own last l' x (omega arith) (λ a ne. refl) (λ a ne. part_other i a (act k (Got 1)) g.l ne) (stands_next k pc' rf 1 w asking tt (refl, omega arith)) in
         let nothing : own (length acts1) ≡ (λ g. []) = view_none (suc (suc (length acts1))) g.owner w.segs (λ y e. omega (arith, g.owners y, e, length-set g.acts i x)) in
         record {
-          moves = acts k 1 refl is (let n = frees_start (slice_set slots s x) f at (put (λ x. 0) 1 arg) free' in omega (arith, n, frees_live slots s pc pc' r (rf 1) at_slot));
+          moves = acts k 1 refl (asks_by k pc' rf asking) is (let n = frees_start (slice_set slots s x) f at (put (λ x. 0) 1 arg) free' in omega (arith, n, frees_live slots s pc pc' r (rf 1) at_slot));
           kept = λ t q u h. put_other g.names f t (length acts1) (λ e. let p : slice_get slots f ≡ Some (Live q u) = ap (λ u. slice_get slots u) (sym e) ∙ h in let bad : Some Empty ≡ Some (Live q u) = sym free ∙ p in cc);
+          count = λ m h. get_left (bump g.steps i) (0 ∷ []) i (suc m) (bump_same g.steps i m h);
           stage = record {
             l = l';
             names = put g.names f (length acts1);
@@ -367,7 +373,7 @@ module _ (of : ℕ → Class) (code : Code) (always : AlwaysOwn of code) (fair :
 
     starts_inv : (at arg pc' : ℕ) (rf : ℕ → Regs) → Asking (Of (Begin at arg)) pc' rf → effect code.formats (slice_get code.instrs pc) pc r ≡ Asks (Begin at arg) pc' rf → (o : Option ℕ) → free_slot slots ≡ o → Reached (starts o at arg pc' rf s slots w last)
     starts_inv at arg pc' rf asking eff None e = loud (Of (Begin at arg)) pc' rf 0 w asking refl (sym (frees_as slots None e)) tt (refl, omega arith)
-    starts_inv at arg pc' rf asking eff (Some f) e = more at arg pc' rf f asking eff (free_is slots f e) (sym (frees_as slots (Some f) e))
+    starts_inv at arg pc' rf asking eff (Some f) e = more at arg pc' rf f asking eff (free_slot_is_free slots f e) (sym (frees_as slots (Some f) e))
 
     -- a request that is an action
     act_inv : (k : Ask) (pc' : ℕ) (rf : ℕ → Regs) → Asking k pc' rf → effect code.formats (slice_get code.instrs pc) pc r ≡ Asks (request_of k) pc' rf → Reached (machine.asks (request_of k) pc' rf s slots w last)
@@ -431,7 +437,7 @@ module _ (of : ℕ → Class) (code : Code) (always : AlwaysOwn of code) (fair :
           (λ a ne. refl)
           g.in_turn
           g.alive
-          (goes refl (frees_live slots s pc pc' r (rf v) at_slot))
+          (goes refl (frees_live slots s pc pc' r (rf v) at_slot) pc' (rf v) (get_set_same slots s (Live pc' (rf v)) (Live pc r) at_slot))
           (serves_up (first_parts code) (parted owner' (record { segs = m'; out = w.out })) globals last (last_of_touch x last) g.l
           (subst (λ p. Serves (first_parts code) globals g.l p last) (sym (ap (λ u. record { source = record { segs = u; out = w.out }; side = view 1 owner' m' }) source ∙ ap (λ u. record { source = record { segs = view 0 g.owner w.segs; out = w.out }; side = u }) side)) g.serves)
           (touch_grows x last))
@@ -470,7 +476,7 @@ module _ (of : ℕ → Class) (code : Code) (always : AlwaysOwn of code) (fair :
     asks_inv Shared Tick pc' rf ec ef = other_bad _ Shared Tick pc' rf ec ef (λ o. refl)
 
     pub takes_inv : (f : Effect) → effect code.formats (slice_get code.instrs pc) pc r ≡ f → Reached (takes f s slots w last)
-    takes_inv (Goes pc' r') ef = silent (Live pc' r') (λ n f rs. one _ (Goes pc' r') refl ef n _ rs so_far) (goes refl (frees_live slots s pc pc' r r' at_slot))
+    takes_inv (Goes pc' r') ef = silent (Live pc' r') (λ n f rs. one _ (Goes pc' r') refl ef n _ rs so_far) (goes refl (frees_live slots s pc pc' r r' at_slot) pc' r' (get_set_same slots s (Live pc' r') (Live pc r) at_slot))
     takes_inv (Asks q pc' rf) ef = asks_inv (in_place of (slice_get code.instrs pc)) q pc' rf refl ef
     takes_inv (Faults kind) ef = fall (Of Stop) w tt refl (λ at arg h. let x = stands at arg h in (x.1, x.2, shows_fault of code at arg x.1 pc r mine_now last so_far x.3 (Of Stop) Dead (λ f. one _ (Faults kind) refl ef 0 _ (Dead ∷ []) so_far)))
     takes_inv Quits ef = silent Empty (λ n f rs. one _ Quits refl ef n _ rs so_far) (quits refl (frees_quit slots s pc r at_slot) (get_set_same slots s Empty (Live pc r) at_slot))

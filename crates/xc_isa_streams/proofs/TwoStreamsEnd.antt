@@ -5,7 +5,7 @@ use Rattle.xc_isa.specs.declared.code.Run.{Run}
 use Rattle.xc_isa.specs.declared.code.LoopMark.{LoopMark}
 use Rattle.xc_isa.specs.declared.instr.Instr.{Instr}
 use Rattle.xc_isa.specs.Texts.{HasText}
-use Rattle.xc_isa.specs.Machine.{Empty, State, start, HasQuit}
+use Rattle.xc_isa.specs.Machine.{State, start, HasQuit}
 use Rattle.xc_isa.specs.Runs.{Ran, At, Trap, NoRun, run}
 use Rattle.xc_isa_streams.specs.TwoStreams.{two_streams_code, EndsWithSeven}
 use Rattle.xc_isa_streams.specs.InnerTwoStreams.{one_global}
@@ -35,15 +35,15 @@ module _ (t : HasText one_global [] [] two_streams_code) where
   code = code_of one_global [] [] two_streams_code t
 
   abbrev last_state : State
-  last_state = state_in (run code in_turns (start code 2)) (start code 2)
+  last_state = state_in (run code in_turns (start code 1 2)) (start code 1 2)
 
-  runs : run code in_turns (start code 2) ≡ At last_state
+  runs : run code in_turns (start code 1 2) ≡ At last_state
   runs = refl
 
   quit : HasQuit last_state
-  quit zero x e = let is : Empty ≡ x = cc in sym is
-  quit (suc zero) x e = let is : Empty ≡ x = cc in sym is
-  quit (suc (suc s)) x e = cc
+  quit zero pc r e = cc
+  quit (suc zero) pc r e = cc
+  quit (suc (suc s)) pc r e = cc
 
   ends : EndsWithSeven code
   ends = record { ss = in_turns; st = last_state; runs = runs; quit = quit; global = refl }

@@ -6,7 +6,7 @@ use Rattle.xc_isa.specs.declared.code.Code.{Code}
 use Rattle.xc_isa.specs.Texts.{cells_of}
 use Rattle.xc_isa.specs.Effects.{Regs, Asks, effect}
 use Rattle.xc_isa.specs.Machine as machine
-use Rattle.xc_isa.specs.Machine.{Slot, Empty, Live, State, After, Waits, step, IsReady, start, HasQuit, words_up_to, live_words}
+use Rattle.xc_isa.specs.Machine.{Slot, Absent, Empty, Live, State, After, Waits, slots_each, step, IsReady, start, HasQuit, words_up_to, live_words}
 use Rattle.xc_isa.specs.Runs.{Ran, At, Trap, NoRun, run}
 use Rattle.xc_isa_streams.specs.Class.{Class}
 use Rattle.xc_isa_streams.specs.Parts.{Ask, Of, Side, Act, act, Parts, Serves, Alive, HasTrapped, SideMade, Known, FairTouch, Fair, begun, threads_in, InTurn}
@@ -41,6 +41,14 @@ pub record Shown (of : ℕ → Class) (code : Code) (l : List (ℕ × Act)) (ste
   pub in_turn : InTurn 1 l
   pub each : (a at arg : ℕ) → slice_get (threads_in l) a ≡ Some (at, arg) → CanStart code at arg × (m : ℕ) × (slice_get steps a ≡ Some m) × Shows of code at arg m (part_of a l)
   pub none : (a : ℕ) → slice_get (threads_in l) a ≡ None → part_of a l ≡ []
+
+-- After its actions in l, thread a asks k next.
+pub record AsksBy (of : ℕ → Class) (code : Code) (l : List (ℕ × Act)) (a : ℕ) (k : Ask) : Type 0 where
+  pub at : ℕ
+  pub arg : ℕ
+  pub m : ℕ
+  pub thread : slice_get (threads_in l) a ≡ Some (at, arg)
+  pub shows : Shows of code at arg m (part_of a l ++ act k Dead ∷ [])
 
 -- ---- what is asked of code
 
@@ -88,6 +96,7 @@ own_view a owner m = view (suc (suc a)) owner m
 
 -- what a stream still does
 abbrev pub now : (ℕ → Class) → Code → ℕ → Slot → Own → List Reply → List Act → End
+now of code k Absent o rs t = Ended rs t
 now of code k Empty o rs t = Ended rs t
 now of code k (Live pc r) o rs t = local of code k pc r o rs t
 
@@ -101,7 +110,7 @@ upto [] f = f
 upto (x ∷ xs) f = cons x (upto xs f)
 
 -- The thread that began at this position with this word has made the actions t in m steps, has got the numbers ns for its own
--- segments, which are now p, and stands in this slot, or has ended where that is empty: whatever the replies after those of t, and
+-- segments, which are now p, and stands in this slot, or has ended where that has no stream: whatever the replies after those of t, and
 -- the numbers after the last.
 pub record Stands (of : ℕ → Class) (code : Code) (at arg m : ℕ) (slot : Slot) (p : Segs) (last : ℕ) (t : List Act) : Type 0 where
   pub ns : List ℕ
@@ -163,6 +172,7 @@ pub record Fallen (of : ℕ → Class) (code : Code) (made : ℕ) : Type 0 where
 -- how many slots are free
 abbrev pub frees : List Slot → ℕ
 frees [] = 0
+frees (Absent ∷ xs) = frees xs
 frees (Empty ∷ xs) = suc (frees xs)
 frees (Live pc r ∷ xs) = frees xs
 
@@ -180,18 +190,19 @@ AsFree n (Of Stop) v = Unit {0}
 AsFree n (Of Tick) v = Unit {0}
 AsFree n (Side x) v = Unit {0}
 
--- The stream in slot s, the thread i, made a step: without an action it goes on, or quits; or the list has that action more. A start
--- takes a free slot, if there is one.
-pub data Moves (slots slots' : List Slot) (s i : ℕ) (l l' : List (ℕ × Act)) : Type 0 where
-  goes : l' ≡ l → frees slots' ≡ frees slots → Moves slots slots' s i l l'
-  quits : l' ≡ l → frees slots' ≡ suc (frees slots) → slice_get slots' s ≡ Some Empty → Moves slots slots' s i l l'
-  acts : (k : Ask) (v : ℕ) → l' ≡ l ++ (i, act k (Got v)) ∷ [] → AsFree (frees slots) k v → frees slots' + length (begun k (Got v)) ≡ frees slots → Moves slots slots' s i l l'
+-- The stream in slot s, the thread i, made a step: without an action it goes on, or quits; or the list has one action more,
+-- which the thread asks next. A start takes a free slot, if there is one.
+pub data Moves (of : ℕ → Class) (code : Code) (slots slots' : List Slot) (s i : ℕ) (l l' : List (ℕ × Act)) : Type 0 where
+  goes : l' ≡ l → frees slots' ≡ frees slots → (pc : ℕ) (r : Regs) → slice_get slots' s ≡ Some (Live pc r) → Moves of code slots slots' s i l l'
+  quits : l' ≡ l → frees slots' ≡ suc (frees slots) → slice_get slots' s ≡ Some Empty → Moves of code slots slots' s i l l'
+  acts : (k : Ask) (v : ℕ) → l' ≡ l ++ (i, act k (Got v)) ∷ [] → AsksBy of code l i k → AsFree (frees slots) k v → frees slots' + length (begun k (Got v)) ≡ frees slots → Moves of code slots slots' s i l l'
 
--- a Stage one step behind, in which each stream that was there is the thread that it was
+-- a Stage one step on, in which each stream that was there is the thread that it was, and the one that stepped has made one step more
 pub record Further (of : ℕ → Class) (code : Code) (slots : List Slot) (w : World) (last made : ℕ) (g : Stage of code slots w last made) (s : ℕ) (slots' : List Slot) (w' : World) (last' : ℕ) : Type 0 where
   pub stage : Stage of code slots' w' last' (suc made)
-  pub moves : Moves slots slots' s (g.names s) g.l stage.l
+  pub moves : Moves of code slots slots' s (g.names s) g.l stage.l
   pub kept : (t pc : ℕ) (r : Regs) → slice_get slots t ≡ Some (Live pc r) → stage.names t ≡ g.names t
+  pub count : (m : ℕ) → slice_get g.steps (g.names s) ≡ Some m → slice_get stage.steps (g.names s) ≡ Some (suc m)
 
 -- the list has one action more, the trap
 pub record Falls (of : ℕ → Class) (code : Code) (slots : List Slot) (w : World) (last made : ℕ) (g : Stage of code slots w last made) (s : ℕ) : Type 0 where
@@ -262,15 +273,19 @@ pub record Waiting (of : ℕ → Class) (code : Code) (l : List (ℕ × Act)) (p
   pub shows : Shows of code at arg m (part_of a l ++ act ask Dead ∷ [])
   pub waits : MustWait ask (suc last) p
 
--- Every run, on any number of slots and in any order, stands for actions of threads, each of which shows its own, in as many steps
+-- a processor or more, each of 1 to 128 slots
+abbrev pub HasSlots : ℕ → ℕ → Type 0
+HasSlots q n = (1 ≤ q) × (1 ≤ n) × (n ≤ slots_each)
+
+-- Every run, on any number of processors and slots and in any order, stands for actions of threads, each of which shows its own, in as many steps
 -- as it makes; a run that has ended, for those of threads that have ended. The list of a longer run goes on that of its beginning,
 -- step by step, and a start is answered 1 exactly where a slot is free at its step. A stream whose step has to wait asks, in its
 -- actions, for what has to wait; where no stream is ready, each thread that has not ended does so. The live words are those of the
 -- source, those that are shared and those of each thread.
 pub record RunsStand (of : ℕ → Class) (code : Code) : Type 0 where
-  pub runs : (n : ℕ) → 1 ≤ n → (ss : List ℕ) → Stood of code (length ss) (run code ss (start code n))
-  pub ended : (n : ℕ) → 1 ≤ n → (ss : List ℕ) (st : State) → run code ss (start code n) ≡ At st → HasQuit st → Finished of code st.world (length ss)
-  pub first : (n : ℕ) → 1 ≤ n → (g : Stage of code (start code n).slots (start code n).world (start code n).last 0) × (g.l ≡ [])
+  pub runs : (q n : ℕ) → HasSlots q n → (ss : List ℕ) → Stood of code (length ss) (run code ss (start code q n))
+  pub ended : (q n : ℕ) → HasSlots q n → (ss : List ℕ) (st : State) → run code ss (start code q n) ≡ At st → HasQuit st → Finished of code st.world (length ss)
+  pub first : (q n : ℕ) → HasSlots q n → (g : Stage of code (start code q n).slots (start code q n).world (start code q n).last 0) × (g.l ≡ [])
   pub steps : (st : State) (made : ℕ) (g : Stage of code st.slots st.world st.last made) (s : ℕ) → StepsTo of code st.slots st.world st.last made g s (step code s st)
   pub onward : (st : State) (made : ℕ) (g : Stage of code st.slots st.world st.last made) (ss : List ℕ) → StoodOn of code g.l (length ss + made) (run code ss st)
   pub words : (st : State) (made : ℕ) (g : Stage of code st.slots st.world st.last made) → live_words st ≡ words_of_owners (suc (suc (length g.acts))) g.owner st.world.segs st.last

@@ -29,10 +29,10 @@ two_streams_code =
     ∷ instr.Quit
     ∷ []
 
--- on two slots it has a run that ends with 7 in the global
+-- on one processor of two slots it has a run that ends with 7 in the global
 pub record EndsWithSeven (code : Code) : Type 0 where
   pub ss : List ℕ
   pub st : State
-  pub runs : run code ss (start code 2) ≡ At st
+  pub runs : run code ss (start code 1 2) ≡ At st
   pub quit : HasQuit st
   pub global : st.world.segs 1 ≡ full_with 7 ∷ []

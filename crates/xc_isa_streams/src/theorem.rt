@@ -13,7 +13,7 @@ pub trait Streams {
     ghost class_of: { ℕ → Class };
 }
 
-/// Every run, on any number of slots and in any order, stands for actions of threads, each of which makes its own alone, with the
+/// Every run, on any number of processors and slots and in any order, stands for actions of threads, each of which makes its own alone, with the
 /// replies of the list; the source's part of the memory and the shared one allow them. Each step leaves the list or adds an action to
 /// it. A stream that has to wait waits for what it asks there. Threads may start at run time: a start is answered 1 exactly where a
 /// slot is free, and else 0.

@@ -1,7 +1,7 @@
 -- The segments of globals.
-use Rattle.std.proofs.Common.{◌≡◌, ℕ, zero, suc, ◌+◌, ◌*◌, ◌-◌, ◌^◌, ◌<◌, ◌≤◌, List, [], ◌∷◌, ◌++◌, length, drop, take, map, get_or, Option, Some, None, refl, sym, ap, ◌∙◌, subst, arith, append_assoc}
+use Rattle.std.proofs.Common.{◌≡◌, ℕ, zero, suc, ◌+◌, ◌*◌, ◌-◌, ◌^◌, ◌<◌, ◌≤◌, List, [], ◌∷◌, ◌++◌, length, take, map, get_or, Some, refl, sym, ap, ◌∙◌, arith, append_assoc}
 use mathlib.Core.Path.{fun_ext}
-use Rattle.std.specs.Prelude.{slice_get, slice_index, replicate, unwrap_or, All}
+use Rattle.std.specs.Prelude.{slice_get, replicate, unwrap_or, All}
 use Rattle.std.specs.List.{sum_by}
 use Rattle.std.specs.Ordering.{nat_cmp}
 use Rattle.std.specs.FinMap.{insert, empty, get-empty}
@@ -117,8 +117,8 @@ few_globals code =
     omega (arith, each, short)
 
 -- the words of the machine as code begins
-pub start_words : (code : Code) (streams : ℕ) → live_words (start code streams) ≡ sum_by size_of code.globals
-start_words code streams = words_of_globals code.globals
+pub start_words : (code : Code) (processors streams : ℕ) → live_words (start code processors streams) ≡ sum_by size_of code.globals
+start_words code processors streams = words_of_globals code.globals
 
 pub length_globals : (gs : List (List Run)) → length (map cells_of gs) ≡ length gs
 length_globals gs = length-map gs cells_of

@@ -1,5 +1,5 @@
 -- A machine is within its limits.
-use Rattle.std.proofs.Common.{◌≡◌, ◌+◌, ◌≤◌, length, arith}
+use Rattle.std.proofs.Common.{◌+◌, ◌≤◌, length, arith}
 use Rattle.xc_isa.specs.Machine.{live_words}
 use Rattle.xc_machine.specs.declared.machine.Machine.{Machine}
 use Rattle.xc_machine.specs.Machines.{state_of}

@@ -1,29 +1,33 @@
 -- Runs go on by one step, and end.
-use Rattle.std.proofs.Common.{◌≡◌, ℕ, zero, suc, ◌+◌, ◌-◌, ◌^◌, min, List, [], ◌∷◌, ◌++◌, map, length, Bool, true, false, Option, Some, None, refl, sym, ap, ◌∙◌, subst, arith}
-use Rattle.std.specs.Prelude.{slice_get, is_none}
+use Rattle.std.proofs.Common.{◌≡◌, ℕ, zero, suc, ◌+◌, ◌-◌, ◌^◌, min, List, [], ◌∷◌, ◌++◌, map, true, Option, Some, refl, sym, ap, ◌∙◌, subst, arith}
 use Rattle.std.specs.List.{list_all}
 use Rattle.xc_isa.specs.declared.code.Code.{Code}
-use Rattle.xc_isa.specs.Machine.{Slot, Empty, State}
-use Rattle.xc_isa.specs.Machine as machine
-use Rattle.xc_isa.specs.Runs.{Ran, At, run, onward}
-use Rattle.xc_machine.specs.declared.stream.Stream.{Stream}
+use Rattle.xc_isa.specs.Machine.{State, IsIdle}
+use Rattle.xc_isa.specs.Runs.{At, run, onward}
+use Rattle.xc_machine_slots.specs.declared.seat.Seat.{Seat}
+use Rattle.xc_machine_slots.specs.declared.seat.Seat.TheVariants.{Absent, Free, Taken}
 use Rattle.xc_machine.specs.declared.stepped.Stepped.TheVariants as stepped
-use Rattle.xc_machine.specs.Shows.{slot_of}
+use Rattle.xc_machine_slots.specs.Registers.{regs_of}
+use Rattle.xc_machine_slots.specs.Seats.{slot_of}
+use Rattle.xc_machine_slots.specs.Seats.{is_idle}
 use Rattle.xc_machine.specs.Limits.{Limits, Steps}
 use Rattle.xc_machine.specs.Runs.{Follows, ready_streams}
 
--- ---- all slots are free
+-- ---- no slot has a stream
 
-pub quits : (xs : List (Option Stream)) → list_all (λ o. is_none o) xs ≡ true → (s : ℕ) (x : Slot) → slice_get (map slot_of xs) s ≡ Some x → x ≡ Empty
-quits [] e s x f = absurd cc
-quits (None ∷ xs) e zero x f = let same : Empty ≡ x = cc in sym same
-quits (None ∷ xs) e (suc s) x f = quits xs e s x f
-quits (Some t ∷ xs) e s x f = absurd cc
+pub quits : (xs : List Seat) → list_all (λ o. is_idle o) xs ≡ true → IsIdle (map slot_of xs)
+quits [] e s pc r f = cc
+quits (Absent ∷ xs) e zero pc r f = cc
+quits (Absent ∷ xs) e (suc s) pc r f = quits xs e s pc r f
+quits (Free ∷ xs) e zero pc r f = cc
+quits (Free ∷ xs) e (suc s) pc r f = quits xs e s pc r f
+quits (Taken t ∷ xs) e s pc r f = cc
 
-pub quit_all : (xs : List (Option Stream)) → ((s : ℕ) (x : Slot) → slice_get (map slot_of xs) s ≡ Some x → x ≡ Empty) → list_all (λ o. is_none o) xs ≡ true
+pub quit_all : (xs : List Seat) → IsIdle (map slot_of xs) → list_all (λ o. is_idle o) xs ≡ true
 quit_all [] h = refl
-quit_all (None ∷ xs) h = quit_all xs (λ s x e. h (suc s) x e)
-quit_all (Some t ∷ xs) h = absurd (let bad : slot_of (Some t) ≡ Empty = h 0 (slot_of (Some t)) refl in cc)
+quit_all (Absent ∷ xs) h = quit_all xs (λ s pc r e. h (suc s) pc r e)
+quit_all (Free ∷ xs) h = quit_all xs (λ s pc r e. h (suc s) pc r e)
+quit_all (Taken t ∷ xs) h = absurd (h 0 t.at (regs_of t.regs) refl)
 
 -- ---- steps
 

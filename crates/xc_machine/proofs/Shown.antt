@@ -7,7 +7,7 @@ use Rattle.std.specs.FinMap.{get, insert, remove}
 use Rattle.xc_word.specs.declared.memory.Access.{Access}
 use Rattle.xc_word.specs.declared.memory.Place.{Place}
 use Rattle.xc_word.specs.declared.memory.Cell.{Cell}
-use Rattle.xc_word.specs.Cells.{Segments, cell_at, put_in, fresh}
+use Rattle.xc_word.specs.Cells.{Segments, put_in, fresh}
 use Rattle.xc_word.specs.Table.{on_cell, outcome, answer_of, left_by}
 use Rattle.xc_word.proofs.Maps.{assign, get-assign_same, get-assign_other}
 use Rattle.xc_meaning_world.specs.World.{Reach, New, Free, On, Got, Dead, put, left_in, reached, freed, put_back, with_out, serve}

@@ -1,6 +1,6 @@
 -- The step of the stream in a slot.
-use Rattle.std.proofs.Common.{◌≡◌, ℕ, zero, suc, List, [], ◌∷◌, map, Bool, true, Option, Some, None, refl, sym, ap, ◌∙◌, subst}
-use Rattle.std.specs.Prelude.{slice_get, unwrap_or, is_some}
+use Rattle.std.proofs.Common.{◌≡◌, ℕ, suc, List, map, Option, Some, None, refl, sym, ap, ◌∙◌, subst}
+use Rattle.std.specs.Prelude.{slice_get}
 use Rattle.std.specs.Option.{option_map}
 use Rattle.std.proofs.lemmas.Option.{slice_get-map}
 use Rattle.xc_word.specs.declared.memory.Kind.TheVariants.{Purge, Add}
@@ -8,18 +8,20 @@ use Rattle.xc_isa.specs.declared.code.Code.{Code}
 use Rattle.xc_isa.specs.declared.instr.Instr.{Instr}
 use Rattle.xc_isa.specs.declared.instr.Instr.TheVariants as instr
 use Rattle.xc_isa.specs.Effects.{Regs, effect, reaches, read, load_kind, store_kind}
-use Rattle.xc_isa.specs.Machine.{Slot, Empty, Live, State, Waits, in_slot, step}
-use Rattle.xc_machine.specs.declared.stream.Stream.{Stream}
+use Rattle.xc_isa.specs.Machine.{Live, State, Waits, in_slot, step}
+use Rattle.xc_machine_slots.specs.declared.stream.Stream.{Stream}
+use Rattle.xc_machine_slots.specs.declared.seat.Seat.{Seat}
+use Rattle.xc_machine_slots.specs.declared.seat.Seat.TheVariants as seat
+use Rattle.xc_machine_slots.specs.declared.seat.Seat.TheVariants.{Free, Taken}
 use Rattle.xc_machine.specs.declared.target.Target.{Target}
 use Rattle.xc_machine.specs.declared.machine.Machine.{Machine}
 use Rattle.xc_machine.specs.declared.stepped.Stepped.{Stepped}
-use Rattle.xc_machine.specs.declared.stepped.Stepped.TheVariants.{NotReady}
-use Rattle.xc_machine.specs.Registers.{regs_of}
-use Rattle.xc_machine.specs.InnerRegisters.{answered}
-use Rattle.xc_machine.specs.Shows.{slot_of}
-use Rattle.xc_machine.specs.InnerShows.{stream_in, regs_at}
+use Rattle.xc_machine_slots.specs.Registers.{regs_of}
+use Rattle.xc_machine_slots.specs.Registers.{answered}
+use Rattle.xc_machine_slots.specs.Seats.{slot_of}
+use Rattle.xc_machine.specs.InnerShows.{stream_of, stream_in, regs_at}
 use Rattle.xc_machine.specs.Targets.{target_of}
-use Rattle.xc_machine.specs.Limits.{Limits, Does, Steps, cells_in, bytes_in}
+use Rattle.xc_machine.specs.Limits.{Does, Steps, cells_in, bytes_in}
 use Rattle.xc_machine.specs.InnerLimits.{Makes}
 use Rattle.xc_machine.specs.Machines.{state_of, code_of, limits_of}
 
@@ -43,30 +45,33 @@ target_effect formats (instr.Fadd d a n b) pc r t e =
     ap (λ (x : Target). reaches x.kind x.pointer x.off x.value (suc pc) (answered r x.to)) (sym same)
 target_effect formats _ pc r t e = absurd cc
 
-there : (o : Option (Option Stream)) (t : Stream) → unwrap_or o None ≡ Some t → o ≡ Some (Some t)
+there : (o : Option Seat) (t : Stream) → stream_of o ≡ Some t → o ≡ Some (Taken t)
 there None t e = absurd cc
-there (Some o) t e = ap Some e
+there (Some seat.Absent) t e = absurd cc
+there (Some Free) t e = absurd cc
+there (Some (Taken u)) t e = let same : u ≡ t = cc in ap (λ x. Some (Taken x)) same
 
 -- the slot of a stream
-pub slot_live : (xs : List (Option Stream)) (s : ℕ) (t : Stream) → stream_in xs s ≡ Some t → slice_get (map slot_of xs) s ≡ Some (Live t.at (regs_of t.regs))
+pub slot_live : (xs : List Seat) (s : ℕ) (t : Stream) → stream_in xs s ≡ Some t → slice_get (map slot_of xs) s ≡ Some (Live t.at (regs_of t.regs))
 slot_live xs s t e = slice_get-map slot_of xs s ∙ ap (option_map slot_of) (there (slice_get xs s) t e)
 
 -- a slot where no stream is
-no_slot : (code : Code) (o : Option (Option Stream)) (s : ℕ) (st : State) → unwrap_or o None ≡ None → in_slot code (option_map slot_of o) s st.slots st.world st.last ≡ Waits
+no_slot : (code : Code) (o : Option Seat) (s : ℕ) (st : State) → stream_of o ≡ None → in_slot code (option_map slot_of o) s st.slots st.world st.last ≡ Waits
 no_slot code None s st e = refl
-no_slot code (Some None) s st e = refl
-no_slot code (Some (Some t)) s st e = absurd cc
+no_slot code (Some seat.Absent) s st e = refl
+no_slot code (Some Free) s st e = refl
+no_slot code (Some (Taken t)) s st e = absurd cc
 
-pub step_none : (m : Machine) (s : ℕ) → stream_in m.slots.items s ≡ None → step (code_of m) s (state_of m) ≡ Waits
-step_none m s e = ap (λ o. in_slot (code_of m) o s (state_of m).slots (state_of m).world (state_of m).last) (slice_get-map slot_of m.slots.items s) ∙ no_slot (code_of m) (slice_get m.slots.items s) s (state_of m) e
+pub step_none : (m : Machine) (s : ℕ) → stream_in m.seats.items s ≡ None → step (code_of m) s (state_of m) ≡ Waits
+step_none m s e = ap (λ o. in_slot (code_of m) o s (state_of m).slots (state_of m).world (state_of m).last) (slice_get-map slot_of m.seats.items s) ∙ no_slot (code_of m) (slice_get m.seats.items s) s (state_of m) e
 
-pub step_live : (m : Machine) (s : ℕ) (t : Stream) (result : Stepped) (new : State) → stream_in m.slots.items s ≡ Some t
-    → Makes (limits_of m) result (state_of m) new s (effect (code_of m).formats (slice_get (code_of m).instrs t.at) t.at (regs_at (stream_in m.slots.items s)))
+pub step_live : (m : Machine) (s : ℕ) (t : Stream) (result : Stepped) (new : State) → stream_in m.seats.items s ≡ Some t
+    → Makes (limits_of m) result (state_of m) new s (effect (code_of m).formats (slice_get (code_of m).instrs t.at) t.at (regs_at (stream_in m.seats.items s)))
     → Steps (code_of m) (limits_of m) s result (state_of m) new
 step_live m s t result new e h =
     let st = state_of m in
     let code = code_of m in
-    subst (λ o. Does (limits_of m) result st new (in_slot code o s st.slots st.world st.last) (cells_in code o) (bytes_in code o)) (sym (slot_live m.slots.items s t e))
+    subst (λ o. Does (limits_of m) result st new (in_slot code o s st.slots st.world st.last) (cells_in code o) (bytes_in code o)) (sym (slot_live m.seats.items s t e))
     (subst (λ o. Makes (limits_of m) result st new s (effect code.formats (slice_get code.instrs t.at) t.at (regs_at o))) e h)
 
 -- the stream that is at a position
@@ -75,12 +80,12 @@ stream_at None at e = absurd cc
 stream_at (Some t) at e = (t, refl, cc)
 
 -- a step by the instruction at the stream's position; none: there is none
-pub step_at : (m : Machine) (s at : ℕ) (i : Option Instr) (result : Stepped) (new : State) → option_map (λ t. t.at) (stream_in m.slots.items s) ≡ Some at → slice_get (code_of m).instrs at ≡ i
-    → Makes (limits_of m) result (state_of m) new s (effect (code_of m).formats i at (regs_at (stream_in m.slots.items s)))
+pub step_at : (m : Machine) (s at : ℕ) (i : Option Instr) (result : Stepped) (new : State) → option_map (λ t. t.at) (stream_in m.seats.items s) ≡ Some at → slice_get (code_of m).instrs at ≡ i
+    → Makes (limits_of m) result (state_of m) new s (effect (code_of m).formats i at (regs_at (stream_in m.seats.items s)))
     → Steps (code_of m) (limits_of m) s result (state_of m) new
 step_at m s at i result new e f h =
-    let t = stream_at (stream_in m.slots.items s) at e in
-    let regs = regs_at (stream_in m.slots.items s) in
+    let t = stream_at (stream_in m.seats.items s) at e in
+    let regs = regs_at (stream_in m.seats.items s) in
     let code = code_of m in
     step_live m s t.0 result new t.1
     (subst (λ p. Makes (limits_of m) result (state_of m) new s (effect code.formats (slice_get code.instrs p) p regs)) (sym t.2)

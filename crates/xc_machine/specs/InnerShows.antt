@@ -1,12 +1,20 @@
 -- What only private functions and proofs speak of, beside `Shows`.
-use Rattle.std.specs.Prelude.{ℕ, List, Option, Some, None, slice_get, unwrap_or}
+use Rattle.std.specs.Prelude.{ℕ, List, Option, Some, None, slice_get}
 use Rattle.xc_isa.specs.Effects.{Regs}
-use Rattle.xc_machine.specs.declared.stream.Stream.{Stream}
-use Rattle.xc_machine.specs.Registers.{regs_of}
+use Rattle.xc_machine_slots.specs.declared.stream.Stream.{Stream}
+use Rattle.xc_machine_slots.specs.declared.seat.Seat.{Seat}
+use Rattle.xc_machine_slots.specs.declared.seat.Seat.TheVariants.{Absent, Free, Taken}
+use Rattle.xc_machine_slots.specs.Registers.{regs_of}
 
--- the stream in a slot, where there is one
-abbrev pub stream_in : List (Option Stream) → ℕ → Option Stream
-stream_in slots s = unwrap_or (slice_get slots s) None
+abbrev pub stream_of : Option Seat → Option Stream
+stream_of None = None
+stream_of (Some Absent) = None
+stream_of (Some Free) = None
+stream_of (Some (Taken t)) = Some t
+
+-- the stream under a number, where there is one
+abbrev pub stream_in : List Seat → ℕ → Option Stream
+stream_in seats s = stream_of (slice_get seats s)
 
 -- the registers of a stream, 0 where there is none
 abbrev pub regs_at : Option Stream → Regs

@@ -1,5 +1,3 @@
-pub mod Registers
-pub mod InnerRegisters
 pub mod Places
 pub mod Shows
 pub mod InnerShows

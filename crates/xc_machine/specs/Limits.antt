@@ -3,7 +3,7 @@ use Rattle.std.specs.Prelude.{◌≡◌, ◌⊎◌, ◌<◌, ◌≤◌, ◌+◌,
 use Rattle.xc_meaning_world.specs.World.{On, New, Print, Request, Touch, Reach, Free, Begin, Stop, Tick}
 use Rattle.xc_isa.specs.declared.code.Code.{Code}
 use Rattle.xc_isa.specs.Effects.{Effect, Goes, Asks, Faults, Quits, effect, read}
-use Rattle.xc_isa.specs.Machine.{Slot, Empty, Live, State, After, At, Trap as TrapsBy, Waits, Spent, step, live_words}
+use Rattle.xc_isa.specs.Machine.{Slot, Absent, Empty, Live, State, After, At, Trap as TrapsBy, Waits, Spent, step, live_words}
 use Rattle.xc_machine.specs.declared.stepped.Stepped.{Stepped}
 use Rattle.xc_machine.specs.declared.stepped.Stepped.TheVariants.{Went, NotReady, Trap, WordsFull, OutFull, NoMemory}
 
@@ -50,11 +50,13 @@ bytes_asked Quits = []
 -- of the stream in a slot; nothing is asked where there is none
 abbrev pub cells_in : Code → Option Slot → ℕ
 cells_in code None = 0
+cells_in code (Some Absent) = 0
 cells_in code (Some Empty) = 0
 cells_in code (Some (Live pc r)) = cells_asked (effect code.formats (slice_get code.instrs pc) pc r)
 
 abbrev pub bytes_in : Code → Option Slot → List ℕ
 bytes_in code None = []
+bytes_in code (Some Absent) = []
 bytes_in code (Some Empty) = []
 bytes_in code (Some (Live pc r)) = bytes_asked (effect code.formats (slice_get code.instrs pc) pc r)
 
@@ -85,11 +87,13 @@ can_step Spent = true
 -- the position of a stream; none where there is no stream
 abbrev pub position_in : Option Slot → Option ℕ
 position_in None = None
+position_in (Some Absent) = None
 position_in (Some Empty) = None
 position_in (Some (Live pc r)) = Some pc
 
 -- what a register of a stream holds, where there are both
 abbrev pub register_in : Option Slot → ℕ → Option ℕ
 register_in None n = None
+register_in (Some Absent) n = None
 register_in (Some Empty) n = None
 register_in (Some (Live pc r)) n = if nat_lt n 32 then Some (read r n) else None

@@ -5,13 +5,13 @@ use Rattle.xc_isa.specs.Machine.{State}
 use Rattle.xc_machine.specs.declared.machine.Machine.{Machine}
 use Rattle.xc_machine.specs.declared.stepped.Stepped.{Stepped}
 use Rattle.xc_machine.specs.declared.stepped.Stepped.TheVariants.{Went, NotReady, Trap, WordsFull, OutFull, NoMemory}
-use Rattle.xc_machine.specs.Shows.{slot_of}
+use Rattle.xc_machine_slots.specs.Seats.{slot_of}
 use Rattle.xc_machine.specs.Stores.{shown}
 use Rattle.xc_machine.specs.Limits.{Limits}
 
 -- the state of the definition
 abbrev pub state_of : Machine → State
-state_of m = record { slots = map slot_of m.slots.items; world = shown m.store; last = m.store.last }
+state_of m = record { slots = map slot_of m.seats.items; world = shown m.store; last = m.store.last }
 
 -- the code that runs
 abbrev pub code_of : Machine → Code

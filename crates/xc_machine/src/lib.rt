@@ -6,7 +6,6 @@ mod run;
 mod start;
 mod stepped;
 mod store;
-mod stream;
 mod target;
 mod values;
 mod views;

@@ -4,30 +4,30 @@ ghost use Rattle.std.specs.Prelude.{◌≡◌, ◌<◌, ◌≤◌, ◌+◌, ◌-
 ghost use Rattle.xc_meaning_world.specs.World.{On, Reach, New, Begin, put};
 ghost use Rattle.xc_isa.specs.Effects.{Asks, Goes, Quits, read, load_kind, store_kind, sets, reaches, frees, prints, effect, printed_regs};
 ghost use Rattle.xc_isa.specs.Machine.{Live, Empty, free_slot, begun};
-ghost use Rattle.xc_machine.specs.InnerRegisters.{answered};
+ghost use Rattle.xc_machine_slots.specs.Registers.{answered};
 ghost use Rattle.std.specs.Option.{option_map};
 ghost use Rattle.xc_machine.specs.InnerShows.{stream_in, regs_at};
 ghost use Rattle.xc_machine.specs.Targets.{target_of};
 
 use crate::stepped::Stepped;
 use crate::store::{Added, Printed, Store};
-use crate::stream::Stream;
-use crate::target::Target;
+use crate::target::{Target, target_in};
 use crate::values::{SEGMENT_SPAN, distance, divide, holds, moved, operate, place};
 use xc_isa::{Code, Instr, Reg, TrapKind};
+use xc_machine_slots::{Seat, Stream, pick};
 use xc_sched::Ready;
 use xc_word::{Access, Applied};
 
-/// Code with its memory, its output, and a slot for each stream.
+/// Code with its memory, its output, and slots for streams.
 #[derive(Drop)]
 pub struct Machine<'a> {
     pub(crate) code: &'a Code,
-    pub(crate) slots: Vec<Option<Stream>>,
+    pub(crate) seats: Vec<Seat>,
     pub(crate) store: Store,
     pub(crate) ready: Ready,
     pub(crate) steps: u64,
-    ghost few: { length slots.items ≤ 1024 },
-    ghost each: { length ready ≡ length slots.items },
+    ghost few: { length seats.items ≤ 8192 },
+    ghost each: { length ready ≡ length seats.items },
 }
 
 impl Machine<'_> {
@@ -38,31 +38,31 @@ impl Machine<'_> {
 
     /// The stream in a slot goes on at another position, with a word in a register where one is named.
     fn go(&mut self, s: u32, at: u64, to: Option<Reg>, word: u64)
-        requires live { IsSome (stream_in self.old.slots.items s) }
-        ensures state { state_of self.new ≡ record (state_of self.old) { slots = slice_set (state_of self.old).slots s (Live at (answered (regs_at (stream_in self.old.slots.items s)) to word)) } }
+        requires live { IsSome (stream_in self.old.seats.items s) }
+        ensures state { state_of self.new ≡ record (state_of self.old) { slots = slice_set (state_of self.old).slots s (Live at (answered (regs_at (stream_in self.old.seats.items s)) to word)) } }
         ensures same { RunsSame self.old self.new }
     {
-        if let Some(stream) = &mut self.slots[s as usize] {
+        if let Seat::Taken(stream) = &mut self.seats[s as usize] {
             stream.go(at, to, word);
         }
     }
 
     /// What a register of the stream in a slot holds.
     fn read(&self, s: u32, r: Reg) -> u64
-        requires { s < length self.now.slots.items }
-        ensures { result ≡ read (regs_at (stream_in self.now.slots.items s)) r }
+        requires { s < length self.now.seats.items }
+        ensures { result ≡ read (regs_at (stream_in self.now.seats.items s)) r }
     {
-        match &self.slots[s as usize] {
-            Some(stream) => stream.read(r),
-            None => 0,
+        match &self.seats[s as usize] {
+            Seat::Taken(stream) => stream.read(r),
+            Seat::Absent | Seat::Free => 0,
         }
     }
 
     /// A register gets a word.
     fn set(&mut self, s: u32, at: u64, to: Reg, word: u64) -> Stepped
-        requires live { IsSome (stream_in self.old.slots.items s) }
+        requires live { IsSome (stream_in self.old.seats.items s) }
         requires next { at + 1 < 2 ^ 64 }
-        ensures does { Makes (limits_of self.old) result (state_of self.old) (state_of self.new) s (Goes (suc at) (put (regs_at (stream_in self.old.slots.items s)) to word)) }
+        ensures does { Makes (limits_of self.old) result (state_of self.old) (state_of self.new) s (Goes (suc at) (put (regs_at (stream_in self.old.seats.items s)) to word)) }
         ensures same { RunsSame self.old self.new }
     {
         self.go(s, at + 1, Some(to), word);
@@ -78,9 +78,9 @@ impl Machine<'_> {
         word: Option<u64>,
         kind: TrapKind,
     ) -> Stepped
-        requires live { IsSome (stream_in self.old.slots.items s) }
+        requires live { IsSome (stream_in self.old.seats.items s) }
         requires next { at + 1 < 2 ^ 64 }
-        ensures does { Makes (limits_of self.old) result (state_of self.old) (state_of self.new) s (sets kind to word (suc at) (regs_at (stream_in self.old.slots.items s))) }
+        ensures does { Makes (limits_of self.old) result (state_of self.old) (state_of self.new) s (sets kind to word (suc at) (regs_at (stream_in self.old.seats.items s))) }
         ensures same { RunsSame self.old self.new }
     {
         match word {
@@ -91,8 +91,8 @@ impl Machine<'_> {
 
     /// The stream goes to another position.
     fn jump(&mut self, s: u32, at: u64) -> Stepped
-        requires live { IsSome (stream_in self.old.slots.items s) }
-        ensures does { Makes (limits_of self.old) result (state_of self.old) (state_of self.new) s (Goes at (regs_at (stream_in self.old.slots.items s))) }
+        requires live { IsSome (stream_in self.old.seats.items s) }
+        ensures does { Makes (limits_of self.old) result (state_of self.old) (state_of self.new) s (Goes at (regs_at (stream_in self.old.seats.items s))) }
         ensures same { RunsSame self.old self.new }
     {
         self.go(s, at, None, 0);
@@ -101,9 +101,9 @@ impl Machine<'_> {
 
     /// Makes an access.
     fn touch(&mut self, s: u32, at: u64, target: Target) -> Stepped
-        requires live { IsSome (stream_in self.old.slots.items s) }
+        requires live { IsSome (stream_in self.old.seats.items s) }
         requires next { at + 1 < 2 ^ 64 }
-        ensures does { Makes (limits_of self.old) result (state_of self.old) (state_of self.new) s (reaches target.kind target.pointer target.off target.value (suc at) (answered (regs_at (stream_in self.old.slots.items s)) target.to)) }
+        ensures does { Makes (limits_of self.old) result (state_of self.old) (state_of self.new) s (reaches target.kind target.pointer target.off target.value (suc at) (answered (regs_at (stream_in self.old.seats.items s)) target.to)) }
         ensures same { RunsSame self.old self.new }
     {
         let Some(place) = place(target.pointer, target.off) else {
@@ -126,9 +126,9 @@ impl Machine<'_> {
 
     /// A new segment of so many cells.
     fn new_segment(&mut self, s: u32, at: u64, to: Reg, cells: u64) -> Stepped
-        requires live { IsSome (stream_in self.old.slots.items s) }
+        requires live { IsSome (stream_in self.old.seats.items s) }
         requires next { at + 1 < 2 ^ 64 }
-        ensures does { Makes (limits_of self.old) result (state_of self.old) (state_of self.new) s (Asks (On (New cells)) (suc at) (answered (regs_at (stream_in self.old.slots.items s)) (Some to))) }
+        ensures does { Makes (limits_of self.old) result (state_of self.old) (state_of self.new) s (Asks (On (New cells)) (suc at) (answered (regs_at (stream_in self.old.seats.items s)) (Some to))) }
         ensures same { RunsSame self.old self.new }
     {
         if cells == 0 {
@@ -149,9 +149,9 @@ impl Machine<'_> {
 
     /// Frees the segment that a pointer points to the start of.
     fn free(&mut self, s: u32, at: u64, pointer: u64) -> Stepped
-        requires live { IsSome (stream_in self.old.slots.items s) }
+        requires live { IsSome (stream_in self.old.seats.items s) }
         requires next { at + 1 < 2 ^ 64 }
-        ensures does { Makes (limits_of self.old) result (state_of self.old) (state_of self.new) s (frees pointer (suc at) (regs_at (stream_in self.old.slots.items s))) }
+        ensures does { Makes (limits_of self.old) result (state_of self.old) (state_of self.new) s (frees pointer (suc at) (regs_at (stream_in self.old.seats.items s))) }
         ensures same { RunsSame self.old self.new }
     {
         if pointer % SEGMENT_SPAN == 0 && self.store.free((pointer >> 32) as u32) {
@@ -164,9 +164,9 @@ impl Machine<'_> {
 
     /// Prints r24 and the registers that follow.
     fn print(&mut self, s: u32, at: u64, format: u32) -> Stepped
-        requires live { IsSome (stream_in self.old.slots.items s) }
+        requires live { IsSome (stream_in self.old.seats.items s) }
         requires next { at + 1 < 2 ^ 64 }
-        ensures does { Makes (limits_of self.old) result (state_of self.old) (state_of self.new) s (prints (slice_get (code_of self.old).formats format) (suc at) (regs_at (stream_in self.old.slots.items s))) }
+        ensures does { Makes (limits_of self.old) result (state_of self.old) (state_of self.new) s (prints (slice_get (code_of self.old).formats format) (suc at) (regs_at (stream_in self.old.seats.items s))) }
         ensures same { RunsSame self.old self.new }
     {
         let code = self.code;
@@ -187,17 +187,17 @@ impl Machine<'_> {
         }
     }
 
-    /// A stream starts at a position with a word in the lowest free slot, if there is one.
+    /// A stream starts at a position with a word in a free slot, if there is one.
     fn create(&mut self, s: u32, at: u64, to: Reg, start: u32, word: u64) -> Stepped
-        requires live { IsSome (stream_in self.old.slots.items s) }
+        requires live { IsSome (stream_in self.old.seats.items s) }
         requires next { at + 1 < 2 ^ 64 }
-        ensures does { Makes (limits_of self.old) result (state_of self.old) (state_of self.new) s (Asks (Begin start word) (suc at) (answered (regs_at (stream_in self.old.slots.items s)) (Some to))) }
+        ensures does { Makes (limits_of self.old) result (state_of self.old) (state_of self.new) s (Asks (Begin start word) (suc at) (answered (regs_at (stream_in self.old.seats.items s)) (Some to))) }
         ensures same { RunsSame self.old self.new }
     {
-        match lowest_free(&self.slots) {
+        match pick(&self.seats) {
             Some(free) => {
                 self.go(s, at + 1, Some(to), 1);
-                self.slots[free] = Some(Stream::begun(start, word));
+                self.seats[free] = Seat::Taken(Stream::begun(start, word));
             }
             None => self.go(s, at + 1, Some(to), 0),
         }
@@ -206,30 +206,31 @@ impl Machine<'_> {
 
     /// The stream ends.
     fn quit(&mut self, s: u32) -> Stepped
-        requires live { IsSome (stream_in self.old.slots.items s) }
+        requires live { IsSome (stream_in self.old.seats.items s) }
         ensures does { Makes (limits_of self.old) result (state_of self.old) (state_of self.new) s (Quits) }
         ensures same { RunsSame self.old self.new }
     {
-        self.slots[s as usize] = None;
+        self.seats[s as usize] = Seat::Free;
         Stepped::Went
     }
 
     /// The registers of the stream in a slot that are printed.
     fn printed(&self, s: u32) -> [u64; 8]
-        requires { s < length self.now.slots.items }
-        ensures { result ≡ map (read (regs_at (stream_in self.now.slots.items s))) printed_regs }
+        requires { s < length self.now.seats.items }
+        ensures { result ≡ map (read (regs_at (stream_in self.now.seats.items s))) printed_regs }
     {
-        match &self.slots[s as usize] {
-            Some(stream) => stream.printed(),
-            None => [0; 8],
+        match &self.seats[s as usize] {
+            Seat::Taken(stream) => stream.printed(),
+            Seat::Absent | Seat::Free => [0; 8],
         }
     }
+
     /// Makes the access of an instruction.
     fn access(&mut self, s: u32, at: u64, instr: Instr) -> Stepped
-        requires live { IsSome (stream_in self.old.slots.items s) }
+        requires live { IsSome (stream_in self.old.seats.items s) }
         requires next { at + 1 < 2 ^ 64 }
-        requires access { IsSome (target_of (regs_at (stream_in self.old.slots.items s)) instr) }
-        ensures does { Makes (limits_of self.old) result (state_of self.old) (state_of self.new) s (effect (code_of self.old).formats (Some instr) at (regs_at (stream_in self.old.slots.items s))) }
+        requires access { IsSome (target_of (regs_at (stream_in self.old.seats.items s)) instr) }
+        ensures does { Makes (limits_of self.old) result (state_of self.old) (state_of self.new) s (effect (code_of self.old).formats (Some instr) at (regs_at (stream_in self.old.seats.items s))) }
         ensures same { RunsSame self.old self.new }
     {
         let Some(target) = self.target(s, instr) else {
@@ -240,20 +241,20 @@ impl Machine<'_> {
 
     /// The access that an instruction of the stream in a slot makes.
     fn target(&self, s: u32, instr: Instr) -> Option<Target>
-        requires live { IsSome (stream_in self.now.slots.items s) }
-        ensures { result ≡ target_of (regs_at (stream_in self.now.slots.items s)) instr }
+        requires live { IsSome (stream_in self.now.seats.items s) }
+        ensures { result ≡ target_of (regs_at (stream_in self.now.seats.items s)) instr }
     {
-        match &self.slots[s as usize] {
-            Some(stream) => stream.target(instr),
-            None => unreachable!(),
+        match &self.seats[s as usize] {
+            Seat::Taken(stream) => target_in(stream, instr),
+            Seat::Absent | Seat::Free => unreachable!(),
         }
     }
 
     /// Runs an instruction of the stream in a slot.
     fn obey(&mut self, s: u32, at: u64, instr: Instr) -> Stepped
-        requires live { IsSome (stream_in self.old.slots.items s) }
+        requires live { IsSome (stream_in self.old.seats.items s) }
         requires next { at + 1 < 2 ^ 64 }
-        ensures does { Makes (limits_of self.old) result (state_of self.old) (state_of self.new) s (effect (code_of self.old).formats (Some instr) at (regs_at (stream_in self.old.slots.items s))) }
+        ensures does { Makes (limits_of self.old) result (state_of self.old) (state_of self.new) s (effect (code_of self.old).formats (Some instr) at (regs_at (stream_in self.old.seats.items s))) }
         ensures same { RunsSame self.old self.new }
     {
         match instr {
@@ -313,10 +314,10 @@ impl Machine<'_> {
 
     /// The position of the stream in a slot. None: there is no stream.
     pub(crate) fn position(&self, s: u32) -> Option<u64>
-        ensures { result ≡ option_map (λ t. t.at) (stream_in self.now.slots.items s) }
+        ensures { result ≡ option_map (λ t. t.at) (stream_in self.now.seats.items s) }
     {
-        match self.slots.get(s as usize) {
-            Some(Some(stream)) => Some(stream.at),
+        match self.seats.get(s as usize) {
+            Some(Seat::Taken(stream)) => Some(stream.at),
             _ => None,
         }
     }
@@ -360,12 +361,4 @@ pub(crate) fn instr_at(code: &Code, at: u64) -> Option<Instr>
         return None;
     }
     Some(instrs[at as usize])
-}
-
-/// The lowest free slot.
-fn lowest_free(slots: &[Option<Stream>]) -> Option<usize>
-    ensures slot { result ≡ position (λ o. is_none o) slots.now }
-    ensures within { IfSome result (λ k. k < length slots.now) }
-{
-    slots.iter().position(|slot| slot.is_none())
 }

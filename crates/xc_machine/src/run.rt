@@ -1,22 +1,23 @@
 //! Whole runs.
 
-ghost use Rattle.std.specs.Prelude.{◌≡◌, ◌≤◌, ◌↔◌, IsTrue, is_none};
+ghost use Rattle.std.specs.Prelude.{◌≡◌, ◌≤◌, ◌↔◌, IsTrue};
 ghost use Rattle.std.specs.List.{list_all};
 ghost use Rattle.xc_isa.specs.Machine.{HasQuit};
 ghost use Rattle.xc_machine.specs.Machines.{state_of, code_of, limits_of, steps_of};
 ghost use Rattle.xc_machine.specs.InnerMachines.{RunsSame};
+ghost use Rattle.xc_machine_slots.specs.Seats.{is_idle};
 ghost use Rattle.xc_machine.specs.Runs.{ready_flags, RunsTo, Rests};
 
 use crate::machine::Machine;
 use crate::stepped::Stepped;
-use crate::stream::Stream;
 use xc_isa::TrapKind;
+use xc_machine_slots::Seat;
 use xc_sched::Chooser;
 
 /// Why a run ended.
 #[derive(Clone, Copy)]
 pub enum End {
-    /// All slots are free.
+    /// No slot has a stream.
     Ended,
     /// A slot has a stream, and none is ready.
     Stuck,
@@ -41,17 +42,17 @@ impl Machine<'_> {
         ensures state { state_of self.new ≡ state_of self.old }
         ensures same { RunsSame self.old self.new }
     {
-        for s in 0..self.slots.len() as u32 {
+        for s in 0..self.seats.len() as u32 {
             let on = self.ready(s);
             self.ready.set(s, on);
         }
     }
 
-    /// Whether all slots are free.
+    /// Whether no slot has a stream.
     fn has_quit(&self) -> bool
         ensures { IsTrue result ↔ HasQuit (state_of self.now) }
     {
-        are_free(&self.slots)
+        are_idle(&self.seats)
     }
 
     /// Ended or stuck. None: a stream is ready.
@@ -71,7 +72,7 @@ impl Machine<'_> {
         }
     }
 
-    /// Steps until all slots are free, none can go on, so many steps were made by this call, or a step is refused. Which stream
+    /// Steps until no slot has a stream, none can go on, so many steps were made by this call, or a step is refused. Which stream
     /// steps is the chooser's choice among those that are ready.
     pub fn run<C: Chooser>(&mut self, chooser: &mut C, limit: u64) -> End
         ensures run { RunsTo C.picks (code_of self.old) (limits_of self.old) limit chooser.old (state_of self.old) (steps_of self.old) chooser.new (state_of self.new) (steps_of self.new) result }
@@ -101,9 +102,9 @@ impl Machine<'_> {
     }
 }
 
-/// Whether all slots are free.
-fn are_free(slots: &[Option<Stream>]) -> bool
-    ensures { result ≡ list_all (λ o. is_none o) slots.now }
+/// Whether no slot has a stream.
+fn are_idle(seats: &[Seat]) -> bool
+    ensures { result ≡ list_all (λ o. is_idle o) seats.now }
 {
-    slots.iter().all(|slot| slot.is_none())
+    seats.iter().all(|seat| seat.is_idle())
 }

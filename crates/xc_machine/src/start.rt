@@ -1,6 +1,6 @@
 //! The machine as code begins.
 
-ghost use Rattle.std.specs.Prelude.{◌≡◌, ◌<◌, ◌≤◌, ◌-◌, ◌^◌, ◌++◌, length, map, replicate, All, None, OnOk, IfOk};
+ghost use Rattle.std.specs.Prelude.{◌≡◌, ◌<◌, ◌≤◌, ◌+◌, ◌-◌, ◌*◌, ◌^◌, ◌++◌, length, map, replicate, All, None, OnOk, IfOk};
 ghost use Rattle.std.specs.List.{sum_by};
 ghost use Rattle.xc_meaning_world.specs.World.{segs_of};
 ghost use Rattle.xc_isa.specs.Texts.{cells_of, size_of, IsGlobal};
@@ -8,11 +8,11 @@ ghost use Rattle.xc_machine.specs.Shows.{segs_in};
 
 use crate::machine::Machine;
 use crate::store::Store;
-use crate::stream::Stream;
 use sqlite_items::Items;
 use std::alloc::{AllocError, Global};
 use thiserror::Error;
 use xc_isa::{Code, Run};
+use xc_machine_slots::{Seat, Stream, free_seats};
 use xc_sched::Ready;
 use xc_word::{Cell, Memory};
 
@@ -98,38 +98,34 @@ fn memory_of(alloc: Global, globals: &[Items<Run>]) -> Result<Memory, AllocError
     Ok(memory)
 }
 
-/// So many free slots.
-fn free_slots(alloc: Global, count: u32) -> Result<Vec<Option<Stream>>, AllocError>
-    ensures { IfOk result (λ slots. slots.items ≡ replicate count None) }
-{
-    vec![in alloc; None; count as usize]
-}
-
 impl<'a> Machine<'a> {
     ghost use Rattle.std.specs.Prelude.{ℕ, MatchResult};
     ghost use Rattle.xc_isa.specs.Machine.{start, live_words};
     ghost use Rattle.xc_machine.specs.Machines.{state_of, code_of, limits_of, steps_of};
 
-    /// The machine as code begins: a number of slots, the most live words, those of the globals included, and the most bytes of
-    /// output.
+    /// The machine as code begins: processors of so many streams each, the most live words, those of the globals included, and the
+    /// most bytes of output.
     pub fn new(
         alloc: Global,
         code: &'a Code,
+        processors: u32,
         streams: u32,
         words: u64,
         out: u64,
     ) -> Result<Machine<'a>, NewFault>
         requires some_stream { 1 ≤ streams }
-        requires few_streams { streams ≤ 1024 }
+        requires few_streams { streams ≤ 128 }
+        requires some_processor { 1 ≤ processors }
+        requires few_processors { processors ≤ 64 }
         requires few_words { words ≤ 2 ^ 24 }
         requires little_out { out ≤ 2 ^ 20 }
-        ensures starts { IfOk result (λ m. state_of m ≡ start code.now streams) }
+        ensures starts { IfOk result (λ m. state_of m ≡ start code.now processors streams) }
         ensures code { IfOk result (λ m. code_of m ≡ code.now) }
         ensures limits { IfOk result (λ m. limits_of m ≡ record { words = words; out = out }) }
         ensures steps { IfOk result (λ m. steps_of m ≡ 0) }
         // The globals' words decide whether there is a machine, but for want of memory.
-        ensures full { MatchResult result (λ _. live_words (start code.now streams) ≤ words)
-            (λ e. (n : ℕ) → e ≡ NewFault.Words n → (n ≡ live_words (start code.now streams)) × (words < n)) }
+        ensures full { MatchResult result (λ _. live_words (start code.now processors streams) ≤ words)
+            (λ e. (n : ℕ) → e ≡ NewFault.Words n → (n ≡ live_words (start code.now processors streams)) × (words < n)) }
     {
         let globals = code.globals.as_slice();
         let live = words_in(globals);
@@ -138,13 +134,14 @@ impl<'a> Machine<'a> {
         }
         let memory = memory_of(alloc, globals)?;
         let store = Store::starting(alloc, memory, globals.len() as u32, live, words, out);
-        let mut slots = free_slots(alloc, streams)?;
-        slots[0] = Some(Stream::first());
+        let mut seats = free_seats(alloc, processors, streams)?;
+        seats[0] = Seat::Taken(Stream::first());
+        let ready = Ready::new(alloc, seats.len() as u32)?;
         Ok(Machine {
             code,
-            slots,
+            seats,
             store,
-            ready: Ready::new(alloc, streams)?,
+            ready,
             steps: 0,
         })
     }

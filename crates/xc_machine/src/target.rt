@@ -5,8 +5,8 @@ ghost use Rattle.xc_isa.specs.Effects.{load_kind, store_kind};
 ghost use Rattle.xc_machine.specs.InnerShows.{regs_at};
 ghost use Rattle.xc_machine.specs.Targets.{target_of, admits as admits_at};
 
-use crate::stream::Stream;
 use xc_isa::{Instr, LoadKind, Reg, StoreKind};
+use xc_machine_slots::Stream;
 use xc_word::{Cell, Kind};
 
 /// What an access is of: the cell at an offset from where a pointer points, and the register that gets the answer.
@@ -53,24 +53,22 @@ pub(crate) fn admits(kind: Kind, cell: Option<Cell>) -> bool
     }
 }
 
-impl Stream {
-    /// The access that an instruction makes. None: it makes none.
-    pub(crate) fn target(&self, instr: Instr) -> Option<Target>
-        ensures { result ≡ target_of (regs_at (Some self.now)) instr }
-    {
-        let (kind, a, off, value, to) = match instr {
-            Instr::Load(kind, d, a, off) => (kind_of_load(kind), a, off, 0, Some(d)),
-            Instr::Store(kind, b, a, off) => (kind_of_store(kind), a, off, self.read(b), None),
-            Instr::Purge(a, off) => (Kind::Purge, a, off, 0, None),
-            Instr::Fadd(d, a, off, b) => (Kind::Add, a, off, self.read(b), Some(d)),
-            _ => return None,
-        };
-        Some(Target {
-            kind,
-            pointer: self.read(a),
-            off,
-            value,
-            to,
-        })
-    }
+/// The access that an instruction of a stream makes. None: it makes none.
+pub(crate) fn target_in(stream: &Stream, instr: Instr) -> Option<Target>
+    ensures { result ≡ target_of (regs_at (Some stream.now)) instr }
+{
+    let (kind, a, off, value, to) = match instr {
+        Instr::Load(kind, d, a, off) => (kind_of_load(kind), a, off, 0, Some(d)),
+        Instr::Store(kind, b, a, off) => (kind_of_store(kind), a, off, stream.read(b), None),
+        Instr::Purge(a, off) => (Kind::Purge, a, off, 0, None),
+        Instr::Fadd(d, a, off, b) => (Kind::Add, a, off, stream.read(b), Some(d)),
+        _ => return None,
+    };
+    Some(Target {
+        kind,
+        pointer: stream.read(a),
+        off,
+        value,
+        to,
+    })
 }

@@ -4,15 +4,15 @@ ghost use Rattle.std.specs.Prelude.{◌≡◌, ◌↔◌, Some, IsTrue, slice_ge
 ghost use Rattle.xc_isa.specs.Machine.{IsReady, step, live_words};
 ghost use Rattle.xc_machine.specs.Limits.{can_step, position_in, register_in};
 ghost use Rattle.xc_machine.specs.Machines.{state_of, code_of, steps_of};
-ghost use Rattle.xc_machine.specs.Registers.{regs_of};
+ghost use Rattle.xc_machine_slots.specs.Registers.{regs_of};
 ghost use Rattle.xc_machine.specs.Targets.{can_go};
 ghost use Rattle.xc_isa.specs.Effects.{effect};
 
 use crate::machine::{Machine, instr_at};
-use crate::stream::Stream;
-use crate::target::admits;
+use crate::target::{admits, target_in};
 use crate::values::place;
 use xc_isa::Reg;
+use xc_machine_slots::{Seat, Stream};
 use xc_word::{Cell, Place};
 
 impl Machine<'_> {
@@ -21,8 +21,8 @@ impl Machine<'_> {
         ensures can { result ≡ can_step (step (code_of self.now) s (state_of self.now)) }
         ensures is { IsTrue result ↔ IsReady (code_of self.now) s (state_of self.now) }
     {
-        match self.slots.get(s as usize) {
-            Some(Some(stream)) => self.can_go(stream),
+        match self.seats.get(s as usize) {
+            Some(Seat::Taken(stream)) => self.can_go(stream),
             _ => false,
         }
     }
@@ -34,7 +34,7 @@ impl Machine<'_> {
         let Some(instr) = instr_at(self.code, stream.at) else {
             return true;
         };
-        let Some(target) = stream.target(instr) else {
+        let Some(target) = target_in(stream, instr) else {
             return true;
         };
         match place(target.pointer, target.off) {
@@ -57,8 +57,8 @@ impl Machine<'_> {
         if register >= 32 {
             return None;
         }
-        match self.slots.get(s as usize) {
-            Some(Some(stream)) => Some(stream.read(Reg::new(register as u8))),
+        match self.seats.get(s as usize) {
+            Some(Seat::Taken(stream)) => Some(stream.read(Reg::new(register as u8))),
             _ => None,
         }
     }

@@ -1,10 +1,13 @@
-ghost use Rattle.std.specs.Prelude.{◌≡◌, IfOk, slice_get};
+ghost use Rattle.std.specs.Prelude.{◌≡◌, ℕ, List, IfOk, slice_get};
 ghost use Rattle.xc_sched.specs.Choices.{PicksInTurn, PicksBySeed, PicksNext};
-ghost use Rattle.xc_sched.specs.Runs.{Spells};
+ghost use Rattle.xc_sched.specs.Runs.{Spells, IsRead};
 ghost use Rattle.xc_sched.specs.Streams.{streams_of};
+ghost use Rattle.xc_text_lines.specs.Lines.{HasFewLines};
 
 use std::alloc::{AllocError, Global};
-use xc_sched::{Chooser, Ready, Recorded, RoundRobin, Seeded, print_schedule};
+use xc_sched::{
+    Chooser, Ready, Recorded, RoundRobin, SchedFault, Seeded, print_schedule, read_schedule,
+};
 
 pub fn nth(ready: &Ready, k: u32) -> Option<u32>
     ensures { result ≡ slice_get (streams_of ready.now) k }
@@ -34,4 +37,14 @@ pub fn printed(alloc: Global, steps: &Recorded) -> Result<Vec<u8>, AllocError>
     ensures { IfOk result (λ v. Spells v.items steps.now) }
 {
     print_schedule(alloc, steps)
+}
+
+/// The steps of a schedule's text, printed.
+pub fn printed_again(alloc: Global, text: &[u8]) -> Result<Vec<u8>, SchedFault>
+    requires { HasFewLines text.now }
+    ensures { IfOk result (λ v. (steps : List ℕ) × IsRead text.now steps × Spells v.items steps) }
+{
+    let steps = read_schedule(alloc, text)?;
+    let printed = print_schedule(alloc, &steps);
+    printed.map_err(|_| SchedFault::NoMemory)
 }

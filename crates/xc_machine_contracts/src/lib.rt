@@ -5,5 +5,5 @@
 mod choices;
 mod runs;
 
-pub use choices::{by_record, by_seed, in_turn, nth, printed};
+pub use choices::{by_record, by_seed, in_turn, nth, printed, printed_again};
 pub use runs::{run, step};

@@ -39,10 +39,10 @@ module _ {C : Type 0} (picks : C → List ℕ → Option ℕ → C → Type 0) (
 
   -- on a machine that is as code begins
   pub played_from : (code k : Code) (limits : Limits) (st : State) (limit : ℕ) (o : Options) (why : Ending) (steps : ℕ) (out named : List ℕ)
-      → k ≡ code → limits ≡ limits_in o → st ≡ start code o.streams → limit ≡ o.steps
-      → Played picks has_left c k limits st limit why steps out named → Played picks has_left c code (limits_in o) (start code o.streams) o.steps why steps out named
+      → k ≡ code → limits ≡ limits_in o → st ≡ start code o.processors o.streams → limit ≡ o.steps
+      → Played picks has_left c k limits st limit why steps out named → Played picks has_left c code (limits_in o) (start code o.processors o.streams) o.steps why steps out named
   played_from code k limits st limit o why steps out named same_code same_limits same_state same_limit h =
-      subst (λ x. Played picks has_left c x (limits_in o) (start code o.streams) o.steps why steps out named) same_code
-      (subst (λ x. Played picks has_left c k x (start code o.streams) o.steps why steps out named) same_limits
+      subst (λ x. Played picks has_left c x (limits_in o) (start code o.processors o.streams) o.steps why steps out named) same_code
+      (subst (λ x. Played picks has_left c k x (start code o.processors o.streams) o.steps why steps out named) same_limits
       (subst (λ x. Played picks has_left c k limits x o.steps why steps out named) same_state
       (subst (λ x. Played picks has_left c k limits st x why steps out named) same_limit h)))

@@ -40,15 +40,15 @@ pub record Played {C : Type 0} (picks : C → List ℕ → Option ℕ → C → 
 
 -- The globals alone are too many words: nothing is run.
 pub record IsTooBig (code : Code) (o : Options) (why : Ending) (steps : ℕ) (out named : List ℕ) : Type 0 where
-  pub more : o.words < live_words (start code o.streams)
-  pub told : why ≡ WordsFull 0 (live_words (start code o.streams))
+  pub more : o.words < live_words (start code o.processors o.streams)
+  pub told : why ≡ WordsFull 0 (live_words (start code o.processors o.streams))
   pub no_steps : steps ≡ 0
   pub no_output : out ≡ []
   pub no_names : named ≡ []
 
 abbrev pub PlaysBy : {C : Type 0} → (C → List ℕ → Option ℕ → C → Type 0) → (C → Bool) → C → Code → Options → Ending → ℕ → List ℕ → List ℕ → Type 0
 PlaysBy picks has_left c code o why steps out named =
-    IsTooBig code o why steps out named ⊎ ((live_words (start code o.streams) ≤ o.words) × Played picks has_left c code (limits_in o) (start code o.streams) o.steps why steps out named)
+    IsTooBig code o why steps out named ⊎ ((live_words (start code o.processors o.streams) ≤ o.words) × Played picks has_left c code (limits_in o) (start code o.processors o.streams) o.steps why steps out named)
 
 -- What comes of a run of the code, by what chooses its streams.
 abbrev pub Plays : Source → Code → Options → Ending → ℕ → List ℕ → List ℕ → Type 0

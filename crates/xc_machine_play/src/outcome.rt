@@ -148,11 +148,12 @@ fn play_by<C: Plan>(
 ) -> Result<Outcome, AllocError>
     ensures { IfOk result (λ o. (named : List ℕ) × IsRecord options.now.recorded named (option_map (λ v. v.items) o.choices) × PlaysBy C.picks C.has_left chooser code.now options.now o.ending o.steps o.out.items named) }
 {
+    let processors = options.processors.number() as u32;
     let streams = options.streams.number() as u32;
     let words = options.words.number();
     let out = options.out.number();
     let limit = options.steps.number();
-    match Machine::new(alloc, code, streams, words, out) {
+    match Machine::new(alloc, code, processors, streams, words, out) {
         Ok(machine) => {
             let mut machine = machine;
             if options.recorded {

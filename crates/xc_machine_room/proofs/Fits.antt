@@ -6,7 +6,7 @@ use Rattle.xc_word.specs.Cells.{fresh}
 use Rattle.xc_meaning_world.specs.World.{World, Touch, Reach, New, Free, Request, On, Print, Begin, Stop, Tick, put}
 use Rattle.xc_isa.specs.declared.code.Code.{Code}
 use Rattle.xc_isa.specs.Effects.{Regs, Effect, Goes, Asks, Faults, Quits, effect}
-use Rattle.xc_isa.specs.Machine.{Slot, Empty, Live, State, After, At, Spent, asks, takes, in_slot, step, live_words}
+use Rattle.xc_isa.specs.Machine.{Slot, Absent, Empty, Live, State, After, At, Spent, asks, takes, in_slot, step, live_words}
 use Rattle.xc_machine.specs.Limits.{cells_of_request, bytes_of_request, cells_asked, bytes_asked, cells_in, bytes_in}
 use Rattle.xc_machine.proofs.WordCounts.{words_above}
 
@@ -80,11 +80,13 @@ takes_gains_output Quits s slots w last = inl refl
 slot_gains_words : (code : Code) (x : Option Slot) (s : ℕ) (slots : List Slot) (w : World) (last : ℕ)
     → Gains live_words (live_words (record { slots = slots; world = w; last = last })) (cells_in code x) (in_slot code x s slots w last)
 slot_gains_words code None s slots w last = inl refl
+slot_gains_words code (Some Absent) s slots w last = inl refl
 slot_gains_words code (Some Empty) s slots w last = inl refl
 slot_gains_words code (Some (Live pc r)) s slots w last = takes_gains_words (effect code.formats (slice_get code.instrs pc) pc r) s slots w last
 
 slot_gains_output : (code : Code) (x : Option Slot) (s : ℕ) (slots : List Slot) (w : World) (last : ℕ) → Gains printed (length w.out) (length (bytes_in code x)) (in_slot code x s slots w last)
 slot_gains_output code None s slots w last = inl refl
+slot_gains_output code (Some Absent) s slots w last = inl refl
 slot_gains_output code (Some Empty) s slots w last = inl refl
 slot_gains_output code (Some (Live pc r)) s slots w last = takes_gains_output (effect code.formats (slice_get code.instrs pc) pc r) s slots w last
 

@@ -60,7 +60,7 @@ fn is_recorded(alloc: Global, ready: &Ready) -> Result<bool, AllocError> {
     let counts = recorder.lost().is_none() && recorder.taken().left() == 8;
     let again = answers(&mut copy, ready) == [Some(0), Some(4), Some(9), Some(0)];
     let text = print_schedule(alloc, &copy)?;
-    let printed = text.as_slice() == b"schedule 1\n4 1\n9 1\n0 1\n4 1\n".as_slice();
+    let printed = text.as_slice() == b"schedule 2\n0 4 1\n0 9 1\n0 0 1\n0 4 1\n".as_slice();
     Ok(counts && again && copy.left() == 4 && printed)
 }
 
@@ -73,13 +73,31 @@ fn records(rt: HostRuntime) -> Result<(), Fail> {
     Ok(())
 }
 
+/// Whether the last stream of all is recorded.
+fn is_last_recorded(alloc: Global) -> Result<bool, AllocError> {
+    let mut ready = Ready::new(alloc, 8192)?;
+    ready.set(8191, true);
+    let mut recorder = Recorder::new(alloc, RoundRobin::new());
+    answers(&mut recorder, &ready);
+    let text = print_schedule(alloc, recorder.taken())?;
+    let printed = text.as_slice() == b"schedule 2\n63 127 4\n".as_slice();
+    Ok(recorder.lost().is_none() && printed)
+}
+
+#[test]
+fn last_stream(rt: HostRuntime) -> Result<(), Fail> {
+    let recorded = is_last_recorded(rt.alloc());
+    assert!(rt; matches!(recorded, Ok(true)));
+    Ok(())
+}
+
 #[test]
 fn losses(rt: HostRuntime) -> Result<(), Fail> {
-    let mut ready = Ready::new(rt.alloc(), 1025)?;
-    ready.set(1024, true);
+    let mut ready = Ready::new(rt.alloc(), 8193)?;
+    ready.set(8192, true);
     let mut far = Recorder::new(rt.alloc(), RoundRobin::new());
-    let chosen = far.next(&ready) == Some(1024);
-    let lost = matches!(far.lost(), Some(Loss::Stream(1024))) && far.taken().left() == 0;
+    let chosen = far.next(&ready) == Some(8192);
+    let lost = matches!(far.lost(), Some(Loss::Stream(8192))) && far.taken().left() == 0;
     drop((ready, far));
     assert!(rt; chosen && lost);
     Ok(())
@@ -95,21 +113,42 @@ fn read_short(alloc: Global, text: &str) -> Result<Result<Recorded, SchedFault>,
     }
 }
 
-/// Whether a schedule has so many answers, and is printed as it stands.
-fn is_read(alloc: Global, text: &str, left: u64) -> Result<bool, Fail> {
+/// Whether a schedule has so many answers, and this is printed of it.
+fn is_read(alloc: Global, text: &str, left: u64, again: &str) -> Result<bool, Fail> {
     let read = read_short(alloc, text)?.ok().ok_or("a schedule")?;
     let printed = print_schedule(alloc, &read)?;
-    Ok(read.left() == left && printed.as_slice() == text.as_bytes())
+    Ok(read.left() == left && printed.as_slice() == again.as_bytes())
 }
 
 #[test]
 fn texts(rt: HostRuntime) -> Result<(), Fail> {
     for (text, left) in [
-        ("schedule 1\n", 0),
-        ("schedule 1\n1023 2147483648\n", 2_147_483_648),
-        ("schedule 1\n0 5\n3 1\n0 1\n", 7),
+        ("schedule 2\n", 0),
+        ("schedule 2\n63 127 2147483648\n", 2_147_483_648),
+        ("schedule 2\n0 0 5\n0 3 1\n1 3 1\n0 3 1\n", 8),
     ] {
-        let fits = is_read(rt.alloc(), text, left)?;
+        let fits = is_read(rt.alloc(), text, left, text)?;
+        assert!(rt; fits, "{text}");
+    }
+    Ok(())
+}
+
+#[test]
+fn texts_of_the_first_form(rt: HostRuntime) -> Result<(), Fail> {
+    for (text, left, again) in [
+        ("schedule 1\n", 0, "schedule 2\n"),
+        (
+            "schedule 1\n1023 2147483648\n",
+            2_147_483_648,
+            "schedule 2\n7 127 2147483648\n",
+        ),
+        (
+            "schedule 1\n0 5\n131 1\n3 1\n",
+            7,
+            "schedule 2\n0 0 5\n1 3 1\n0 3 1\n",
+        ),
+    ] {
+        let fits = is_read(rt.alloc(), text, left, again)?;
         assert!(rt; fits, "{text}");
     }
     Ok(())
@@ -128,15 +167,38 @@ fn first_bad_lines(rt: HostRuntime) -> Result<(), Fail> {
     for (text, line) in [
         ("", 1),
         ("schedule 1", 1),
-        ("schedule 2\n", 1),
+        ("schedule 2", 1),
+        ("schedule 3\n", 1),
+        ("schedule 2 \n", 1),
+        ("schedule  2\n", 1),
+        ("0 0 1\n", 1),
         ("schedule 1\n0 0\n", 2),
         ("schedule 1\n0 2147483649\n", 2),
         ("schedule 1\n1024 1\n", 2),
+        ("schedule 1\n0 0 1\n", 2),
+        ("schedule 1\n5\n", 2),
+        ("schedule 1\nschedule 2\n", 2),
         ("schedule 1\n0 5\n0 1\n", 3),
         ("schedule 1\n0 5\n1 01\n", 3),
         ("schedule 1\n0 5\n1 1", 3),
         ("schedule 1\n0 5\n1 1 \n", 3),
         ("schedule 1\n0 5\n\n", 3),
+        ("schedule 2\n0 1\n", 2),
+        ("schedule 2\n5\n", 2),
+        ("schedule 2\n\n", 2),
+        ("schedule 2\n64 0 1\n", 2),
+        ("schedule 2\n0 128 1\n", 2),
+        ("schedule 2\n0 0 0\n", 2),
+        ("schedule 2\n0 0 2147483649\n", 2),
+        ("schedule 2\n0 0 1 1\n", 2),
+        ("schedule 2\n00 0 1\n", 2),
+        ("schedule 2\n0 0 5\n0 0 1\n", 3),
+        ("schedule 2\n0 0 5\n1 00 1\n", 3),
+        ("schedule 2\n0 0 5\n1 0 01\n", 3),
+        ("schedule 2\n0 0 5\n1  0 1\n", 3),
+        ("schedule 2\n0 0 5\n1 0 1 \n", 3),
+        ("schedule 2\n0 0 5\n1 0 1", 3),
+        ("schedule 2\n0 0 5\n128 1\n", 3),
     ] {
         let found = bad_line(rt.alloc(), text)?;
         assert!(rt; found == Some(line), "{text}");

@@ -97,19 +97,19 @@ valid_at before (r ∷ runs) (suc i) d h lt = valid_at (Some r.stream) runs i d 
 
 -- ---- losses
 
-no_loss : (steps : List ℕ) (s : ℕ) → s < 1024 → steps_at_end s steps < 2 ^ 31 → None ≡ loss_of steps s
+no_loss : (steps : List ℕ) (s : ℕ) → s < 8192 → steps_at_end s steps < 2 ^ 31 → None ≡ loss_of steps s
 no_loss steps s small room =
-    let a : ltb s 1024 ≡ true = grind (arith, nat_tests, small) in
+    let a : ltb s 8192 ≡ true = grind (arith, nat_tests, small) in
     let b : eqb (steps_at_end s steps) (2 ^ 31) ≡ false = grind (arith, nat_tests, room) in
     rw (a, b) refl
 
-steps_lost : (steps : List ℕ) (s : ℕ) → s < 1024 → steps_at_end s steps ≡ 2 ^ 31 → Some Steps ≡ loss_of steps s
+steps_lost : (steps : List ℕ) (s : ℕ) → s < 8192 → steps_at_end s steps ≡ 2 ^ 31 → Some Steps ≡ loss_of steps s
 steps_lost steps s small full =
-    let a : ltb s 1024 ≡ true = grind (arith, nat_tests, small) in
+    let a : ltb s 8192 ≡ true = grind (arith, nat_tests, small) in
     let b : eqb (steps_at_end s steps) (2 ^ 31) ≡ true = grind (arith, nat_tests, full) in
     rw (a, b) refl
 
-module _ (at s : ℕ) (runs : List Run) (steps : List ℕ) (kept : KeepsRuns at runs) (view : steps_of (drop at runs) ≡ steps) (small : s < 1024) where
+module _ (at s : ℕ) (runs : List Run) (steps : List ℕ) (kept : KeepsRuns at runs) (view : steps_of (drop at runs) ≡ steps) (small : s < 8192) where
   -- another stream than the last one
   pub other_fits : is_other (last_of None (drop at runs)) s ≡ true → loss_of steps s ≡ None
   other_fits e = sym (no_loss steps s small (omega (arith, ap (steps_at_end s) view, end_other s (drop at runs) kept.fit e)))

@@ -29,7 +29,7 @@ last_push before (x ∷ runs) r = last_push (Some x.stream) runs r
 -- ---- one run
 
 pub record Ranges (r : Run) : Type 0 where
-  pub stream : r.stream < 1024
+  pub stream : r.stream < 8192
   pub some : 1 ≤ r.count
   pub most : r.count ≤ 2 ^ 31
 
@@ -190,5 +190,3 @@ unique p q (x ∷ a) (y ∷ b) h k e =
     let first : x ≡ y = ap (λ s. record { stream = s; count = x.count }) stream ∙ ap (λ n. record { stream = y.stream; count = n }) parts.0 in
     let rest : a ≡ b = unique (Some x.stream) (Some y.stream) a b h.1 k.1 parts.1 in
     ap (λ r. r ∷ a) first ∙ ap (λ (l : List Run). y ∷ l) rest
-
--- ---- the text of runs

@@ -7,9 +7,9 @@ use Rattle.xc_sched.specs.declared.recorder.Loss.TheVariants.{NoMemory, Steps, S
 abbrev pub steps_at_end : ℕ → List ℕ → ℕ
 steps_at_end s steps = fold (λ n t. if t == s then n + 1 else 0) 0 steps
 
--- why one more step has no text: the stream is not below 1,024, or its run would pass 2^31 steps
+-- why one more step has no text: the stream is not below 8,192, or its run would pass 2^31 steps
 abbrev pub loss_of : List ℕ → ℕ → Option Loss
-loss_of steps s = if nat_lt s 1024 then (if steps_at_end s steps == 2 ^ 31 then Some Steps else None) else Some (Stream s)
+loss_of steps s = if nat_lt s 8192 then (if steps_at_end s steps == 2 ^ 31 then Some Steps else None) else Some (Stream s)
 
 -- One more step is added, or it is lost and the steps are as before.
 abbrev pub Adds : List ℕ → ℕ → Option Loss → List ℕ → Type 0

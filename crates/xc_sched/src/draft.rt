@@ -1,50 +1,86 @@
 //! A schedule that is being read.
 
-ghost use Rattle.std.specs.Prelude.{◌≡◌, ◌∷◌, []};
+ghost use Rattle.std.specs.Prelude.{◌≡◌};
 ghost use Rattle.xc_text_lines.specs.Lines.{words_of};
-ghost use Rattle.xc_sched.specs.Drafts.{run_of as run_of_words, next, whole};
+ghost use Rattle.xc_text_lines.specs.Numbers.{number_of};
+ghost use Rattle.xc_sched.specs.Drafts.{form_of as form_of_line, count_of, stream_at as stream_of, run_of as run_of_words, next, whole};
 
-use crate::run::{Run, STEPS, STREAMS, is_other};
+use crate::form::Form;
+use crate::run::{PROCESSORS, Run, SLOTS, STEPS, is_other};
 use std::alloc::AllocError;
 use std::marker::Model;
 use xc_text_lines::{LineReader, Refused, cut_word, number_below};
 
-/// Whether the first line was read, and the runs so far.
+/// The streams that have a name in the first form are below this.
+const NUMBERED: u64 = 1024;
+
+/// The form, once the first line was read, and the runs so far.
 #[derive(Drop)]
 pub(crate) struct Draft {
-    pub(crate) begun: bool,
+    pub(crate) form: Option<Form>,
     pub(crate) runs: Vec<Run>,
 }
 
 impl Model for Draft {
-    ghost use Rattle.std.specs.Prelude.{List, Bool};
+    ghost use Rattle.std.specs.Prelude.{List, Option};
     ghost use Rattle.xc_sched.specs.declared.run.Run.{Run};
+    ghost use Rattle.xc_sched.specs.declared.form.Form.{Form};
 
-    ghost Value = { Bool × List Run };
+    ghost Value = { Option Form × List Run };
 
-    ghost view = { λ d. (d.begun, d.runs.items) };
+    ghost view = { λ d. (d.form, d.runs.items) };
+}
+
+/// The form that a first line begins.
+fn form_of(line: &[u8]) -> Option<Form>
+    ensures { result ≡ form_of_line line.now }
+{
+    if line == b"schedule 1".as_slice() {
+        return Some(Form::Streams);
+    }
+    if line == b"schedule 2".as_slice() {
+        return Some(Form::Slots);
+    }
+    None
 }
 
 /// The run that a line spells.
-fn run_of(line: &[u8]) -> Option<Run>
-    ensures { result ≡ run_of_words (words_of line.now) }
+fn run_of(form: Form, line: &[u8]) -> Option<Run>
+    ensures { result ≡ run_of_words form (words_of line.now) }
 {
-    let (stream, count) = cut_word(line)?;
-    if cut_word(count).is_some() {
-        return None;
-    }
-    run_from(stream, count)
+    let (first, rest) = cut_word(line)?;
+    let (stream, count) = match form {
+        Form::Streams => (number_below(first, NUMBERED)? as u32, rest),
+        Form::Slots => {
+            let (second, count) = cut_word(rest)?;
+            (stream_at(first, second)?, count)
+        }
+    };
+    let count = count_in(count)?;
+    Some(Run { stream, count })
 }
 
-fn run_from(stream: &[u8], count: &[u8]) -> Option<Run>
-    ensures { result ≡ run_of_words (stream.now ∷ count.now ∷ []) }
+/// The stream that a processor and a slot of it name.
+fn stream_at(processor: &[u8], slot: &[u8]) -> Option<u32>
+    ensures { result ≡ stream_of (number_of 64 processor.now) (number_of 128 slot.now) }
 {
-    let stream = number_below(stream, u64::from(STREAMS))? as u32;
-    let count = number_below(count, u64::from(STEPS) + 1)? as u32;
+    let processor = number_below(processor, u64::from(PROCESSORS))? as u32;
+    let slot = number_below(slot, u64::from(SLOTS))? as u32;
+    Some(SLOTS * processor + slot)
+}
+
+/// The number of steps that the end of a line spells.
+fn count_in(end: &[u8]) -> Option<u32>
+    ensures { result ≡ count_of (words_of end.now) }
+{
+    if cut_word(end).is_some() {
+        return None;
+    }
+    let count = number_below(end, u64::from(STEPS) + 1)? as u32;
     if count == 0 {
         return None;
     }
-    Some(Run { stream, count })
+    Some(count)
 }
 
 impl LineReader for Draft {
@@ -53,16 +89,11 @@ impl LineReader for Draft {
     ghost whole = { whole };
 
     fn take(&mut self, line: &[u8]) -> Result<(), Refused> {
-        if !self.begun {
-            if line != b"schedule 1".as_slice() {
-                return Err(Refused::Line);
-            }
-            self.begun = true;
+        let Some(form) = self.form else {
+            self.form = Some(form_of(line).ok_or(Refused::Line)?);
             return Ok(());
-        }
-        let Some(run) = run_of(line) else {
-            return Err(Refused::Line);
         };
+        let run = run_of(form, line).ok_or(Refused::Line)?;
         if !is_other(&self.runs, run.stream) {
             return Err(Refused::Line);
         }
@@ -71,6 +102,6 @@ impl LineReader for Draft {
     }
 
     fn is_whole(&self) -> bool {
-        self.begun
+        self.form.is_some()
     }
 }

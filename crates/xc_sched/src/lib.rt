@@ -3,6 +3,7 @@
 
 mod chooser;
 mod draft;
+mod form;
 mod ready;
 mod recorded;
 mod recorder;

@@ -4,8 +4,14 @@ ghost use Rattle.std.specs.Prelude.{◌≡◌, ◌≤◌, length, drop};
 ghost use Rattle.xc_sched.specs.Runs.{is_other as is_other_stream};
 ghost use Rattle.xc_sched.specs.InnerRuns.{last_of};
 
-/// The streams that a schedule may name are below this.
-pub(crate) const STREAMS: u32 = 1024;
+/// The processors that a schedule may name are below this.
+pub(crate) const PROCESSORS: u32 = 64;
+
+/// The slots of a processor.
+pub(crate) const SLOTS: u32 = 128;
+
+/// The streams that a schedule may name are below this: slot i of processor q has the number 128 * q + i.
+pub(crate) const STREAMS: u32 = PROCESSORS * SLOTS;
 
 /// The most steps of one run.
 pub(crate) const STEPS: u32 = 1 << 31;

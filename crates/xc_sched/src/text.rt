@@ -4,11 +4,12 @@ ghost use Rattle.std.specs.Prelude.{◌≡◌, ◌⊎◌, ◌++◌, ◌∷◌, [
 ghost use Rattle.xc_text_lines.specs.Lines.{HasFewLines};
 ghost use Rattle.xc_text_lines.specs.Grammar.{IsFirstBad};
 ghost use Rattle.xc_sched.specs.Faults.{fault_of};
-ghost use Rattle.xc_sched.specs.Runs.{Fits, steps_of, line_of, text_of, Spells, IsSchedule};
+ghost use Rattle.xc_sched.specs.Runs.{Fits, steps_of, line_of, text_of, Spells, IsRead, IsSchedule};
+ghost use Rattle.xc_sched.specs.declared.form.Form.TheVariants.{Slots};
 
 use crate::draft::Draft;
 use crate::recorded::Recorded;
-use crate::run::{Run, rest};
+use crate::run::{Run, SLOTS, rest};
 use std::alloc::{AllocError, Global};
 use thiserror::Error;
 use xc_text_lines::{ReadFault, end_line, push_number, push_space, read_lines};
@@ -23,18 +24,18 @@ pub enum SchedFault {
     NoMemory,
 }
 
-/// Reads a schedule.
+/// Reads a schedule, of either form.
 pub fn read_schedule(alloc: Global, text: &[u8]) -> Result<Recorded, SchedFault>
     requires { HasFewLines text.now }
     // The text spells what is read.
-    ensures found { IfOk result (λ s. Spells text.now s) }
+    ensures found { IfOk result (λ s. IsRead text.now s) }
     // What the text spells is read, unless memory runs out.
-    ensures only { (s : List ℕ) → Spells text.now s → (result ≡ Ok s) ⊎ (result ≡ Err SchedFault.NoMemory) }
+    ensures only { (s : List ℕ) → IsRead text.now s → (result ≡ Ok s) ⊎ (result ≡ Err SchedFault.NoMemory) }
     // Another text has a first bad line.
     ensures line { (k : ℕ) → result ≡ Err (SchedFault.Line k) → IsFirstBad IsSchedule text.now k }
 {
     let mut draft = Draft {
-        begun: false,
+        form: None,
         runs: Vec::new(alloc),
     };
     match read_lines(text, &mut draft) {
@@ -63,11 +64,11 @@ fn finished(draft: Draft) -> Recorded
     }
 }
 
-/// The text of what is left of a schedule.
+/// The text of what is left of a schedule, in the second form.
 pub fn print_schedule(alloc: Global, s: &Recorded) -> Result<Vec<u8>, AllocError>
     // The text spells what is left.
     ensures spells { IfOk result (λ v. Spells v.items s.now) }
-    // It is the only text that does.
+    // It is the only text of this form that does.
     ensures again { (text : List ℕ) → Spells text s.now → IfOk result (λ v. v.items ≡ text) }
     // It has few enough lines to be read again.
     ensures few { IfOk result (λ v. HasFewLines v.items) }
@@ -76,9 +77,9 @@ pub fn print_schedule(alloc: Global, s: &Recorded) -> Result<Vec<u8>, AllocError
 }
 
 fn print_runs(alloc: Global, runs: &[Run]) -> Result<Vec<u8>, AllocError>
-    ensures { IfOk result (λ v. v.items ≡ text_of runs.now) }
+    ensures { IfOk result (λ v. v.items ≡ text_of Slots runs.now) }
 {
-    let mut out = Vec::from_slice(alloc, b"schedule 1\n")?;
+    let mut out = Vec::from_slice(alloc, b"schedule 2\n")?;
     for run in runs {
         push_run(&mut out, *run)?;
     }
@@ -87,9 +88,11 @@ fn print_runs(alloc: Global, runs: &[Run]) -> Result<Vec<u8>, AllocError>
 
 /// Writes the line of a run.
 fn push_run(out: &mut Vec<u8>, run: Run) -> Result<(), AllocError>
-    ensures { OnOk result (out.new.items ≡ out.old.items ++ (line_of run ++ 10 ∷ [])) }
+    ensures { OnOk result (out.new.items ≡ out.old.items ++ (line_of Slots run ++ 10 ∷ [])) }
 {
-    push_number(out, u64::from(run.stream))?;
+    push_number(out, u64::from(run.stream / SLOTS))?;
+    push_space(out)?;
+    push_number(out, u64::from(run.stream % SLOTS))?;
     push_space(out)?;
     push_number(out, u64::from(run.count))?;
     end_line(out)

@@ -9,6 +9,7 @@ use Rattle.xc_isa.specs.declared.code.Code.{Code}
 use Rattle.xc_isa.specs.declared.instr.TrapKind.{TrapKind}
 use Rattle.xc_isa.specs.Machine.{start}
 use Rattle.xc_gen.specs.Unbuilt.{unbuilt_of}
+use Rattle.xc_gen.specs.Faithful.{IsMachine}
 use Rattle.xc_driver.specs.declared.fault.RefusalKind.{RefusalKind}
 use Rattle.xc_driver.specs.Compiles.{IsTreeOf, IsCodeOf, IsOnlyRefusal}
 use Rattle.xc_machine_room.specs.Rooms.{HasRoom as LeavesRoom, PicksReady, IsEnd, IsShort}
@@ -31,29 +32,29 @@ use Rattle.xc_top.proofs.Sources.{output_of, trap_of}
 
 -- ---- one run
 
-module _ (tree : Tree) (code : Code) (of_tree : IsCodeOf tree code) (o : Options) (some : 1 ≤ o.streams) (few : o.streams ≤ 1024) (room : HasRoom o (program_of tree)) where
-  leaves_room : LeavesRoom code (start code o.streams) (limits_in o) o.steps
+module _ (tree : Tree) (code : Code) (of_tree : IsCodeOf tree code) (o : Options) (machine : IsMachine o.processors o.streams) (room : HasRoom o (program_of tree)) where
+  leaves_room : LeavesRoom code (start code o.processors o.streams) (limits_in o) o.steps
   leaves_room = record {
-    few = λ ss new e. omega (arith, of_tree.ends.steps o.streams room.ticks (some, few) room.are_few ss new e, room.steps);
-    few_to_trap = λ ss kind e. omega (arith, of_tree.ends.steps_to_trap o.streams room.ticks (some, few) room.are_few ss kind e, room.steps);
-    words = λ ss new e. omega (arith, of_tree.ends.words o.streams (some, few) ss new e, room.words);
-    numbers = λ ss new e. of_tree.ends.numbers o.streams (some, few) ss new e;
-    out = λ ss new e. of_tree.ends.output o.streams o.out (some, few) room.output ss new e;
-    ready = λ ss new e. of_tree.no_stuck.ready o.streams (some, few) ss new e;
+    few = λ ss new e. omega (arith, of_tree.ends.steps o.processors o.streams room.ticks machine room.are_few ss new e, room.steps);
+    few_to_trap = λ ss kind e. omega (arith, of_tree.ends.steps_to_trap o.processors o.streams room.ticks machine room.are_few ss kind e, room.steps);
+    words = λ ss new e. omega (arith, of_tree.ends.words o.processors o.streams machine ss new e, room.words);
+    numbers = λ ss new e. of_tree.ends.numbers o.processors o.streams machine ss new e;
+    out = λ ss new e. of_tree.ends.output o.processors o.streams o.out machine room.output ss new e;
+    ready = λ ss new e. of_tree.no_stuck.ready o.processors o.streams machine ss new e;
   }
 
   module _ (why : Ending) (steps : ℕ) (out named : List ℕ) where
     -- the globals are not too many words
     not_big : IsTooBig code o why steps out named → ⊥
-    not_big big = absurd (omega (arith, big.more, leaves_room.words [] (start code o.streams) refl))
+    not_big big = absurd (omega (arith, big.more, leaves_room.words [] (start code o.processors o.streams) refl))
 
     long_by : {C : Type 0} (picks : C → List ℕ → Option ℕ → C → Type 0) (has_left : C → Bool) (c : C) → PlaysBy picks has_left c code o why steps out named → IsShort why → ⊥
     long_by picks has_left c (inl big) short = not_big big
-    long_by picks has_left c (inr h) short = not_short picks c code (limits_in o) (start code o.streams) o.steps why steps out named leaves_room has_left h.1 short
+    long_by picks has_left c (inr h) short = not_short picks c code (limits_in o) (start code o.processors o.streams) o.steps why steps out named leaves_room has_left h.1 short
 
     end_by : {C : Type 0} (picks : C → List ℕ → Option ℕ → C → Type 0) (c : C) → PicksReady picks → PlaysBy picks (λ d. false) c code o why steps out named → IsEnd why
     end_by picks c ready (inl big) = absurd (not_big big)
-    end_by picks c ready (inr h) = comes_to_end picks c code (limits_in o) (start code o.streams) o.steps why steps out named leaves_room ready h.1
+    end_by picks c ready (inr h) = comes_to_end picks c code (limits_in o) (start code o.processors o.streams) o.steps why steps out named leaves_room ready h.1
 
     -- all quit, or one trapped; by a schedule, at least no limit was passed
     comes_so : (by : Choice) (schedule : Option (List ℕ)) (s : Source) → Chooses by schedule s → Plays s code o why steps out named → IsEnd why ⊎ (IsScheduled by × (IsShort why → ⊥))
@@ -92,11 +93,11 @@ executed_ends tree code of_tree o schedule status out err (NoSchedule r) room =
     subst (λ s. IsEndOf o.choice (program_of tree) s out) (sym r.is_status) (scheduled o.choice schedule r.name r.line r.why)
 executed_ends tree code of_tree o schedule status out err (WasRun r) room =
     let p = program_of tree in
-    let m : Numbers = record { steps = r.steps; streams = o.streams } in
-    let ended = λ (e : r.why ≡ ending.Ended). output_of p code o r.steps out r.named of_tree.faithful r.some r.few r.source (subst (λ w. Plays r.source code o w r.steps out r.named) e r.plays) in
-    let trapped = λ (kind : TrapKind) (s : ℕ) (e : r.why ≡ ending.Trap kind s). trap_of p code o r.steps out r.named of_tree.faithful r.some r.few r.source kind s (subst (λ w. Plays r.source code o w r.steps out r.named) e r.plays) in
+    let m : Numbers = record { steps = r.steps; streams = o.streams; processors = o.processors } in
+    let ended = λ (e : r.why ≡ ending.Ended). output_of p code o r.steps out r.named of_tree.faithful r.machine r.source (subst (λ w. Plays r.source code o w r.steps out r.named) e r.plays) in
+    let trapped = λ (kind : TrapKind) (s : ℕ) (e : r.why ≡ ending.Trap kind s). trap_of p code o r.steps out r.named of_tree.faithful r.machine r.source kind s (subst (λ w. Plays r.source code o w r.steps out r.named) e r.plays) in
     subst (λ s. IsEndOf o.choice p s out) (sym r.is_status)
-    (told_so o.choice p r.why m out ended trapped (comes_so tree code of_tree o r.some r.few room r.why r.steps out r.named o.choice schedule r.source r.chooses r.plays))
+    (told_so o.choice p r.why m out ended trapped (comes_so tree code of_tree o r.machine room r.why r.steps out r.named o.choice schedule r.source r.chooses r.plays))
 
 -- ---- one text
 

@@ -8,7 +8,7 @@ use Rattle.xc_isa.specs.declared.instr.TrapKind.{TrapKind}
 use Rattle.xc_isa.specs.Machine as machine
 use Rattle.xc_isa.specs.Machine.{State, start, step}
 use Rattle.xc_isa.specs.Runs.{Trap as Traps, run, onward}
-use Rattle.xc_gen.specs.Faithful.{Faithful}
+use Rattle.xc_gen.specs.Faithful.{IsMachine, Faithful}
 use Rattle.xc_machine.specs.declared.run.End.{End}
 use Rattle.xc_machine.specs.declared.run.End.TheVariants as end
 use Rattle.xc_machine.specs.Limits.{Limits}
@@ -63,7 +63,7 @@ run_traps picks code limits c st (t ∷ ss) d new s kind f e =
 
 -- ---- what a run has of a source run, by what chooses its streams
 
-module _ {C : Type 0} (picks : C → List ℕ → Option ℕ → C → Type 0) (has_left : C → Bool) (c : C) (p : Program) (code : Code) (o : Options) (steps : ℕ) (out named : List ℕ) (faithful : Faithful p code) (some : 1 ≤ o.streams) (few : o.streams ≤ 1024) where
+module _ {C : Type 0} (picks : C → List ℕ → Option ℕ → C → Type 0) (has_left : C → Bool) (c : C) (p : Program) (code : Code) (o : Options) (steps : ℕ) (out named : List ℕ) (faithful : Faithful p code) (machine : IsMachine o.processors o.streams) where
   output_by : PlaysBy picks has_left c code o ending.Ended steps out named → IsSourceOutput p out
   output_by (inl big) = absurd (let bad = big.told in cc)
   output_by (inr both) =
@@ -71,7 +71,7 @@ module _ {C : Type 0} (picks : C → List ℕ → Option ℕ → C → Type 0) (
       let r = h.run in
       let is = ended_is h.end (has_left h.after) h.told in
       let quit = (subst (λ e. Ends picks code (limits_in o) o.steps (length r.streams) r.last h.last h.after e) is r.ends).0 in
-      let s = faithful.ends o.streams (some, few) r.streams h.last (follows_run picks code (limits_in o) c (start code o.streams) r.streams r.last h.last r.follows) quit in
+      let s = faithful.ends o.processors o.streams machine r.streams h.last (follows_run picks code (limits_in o) c (start code o.processors o.streams) r.streams r.last h.last r.follows) quit in
       (s.0, s.1, s.2, s.3, s.4.0 ∙ sym h.printed)
 
   trap_by : (kind : TrapKind) (s : ℕ) → PlaysBy picks has_left c code o (ending.Trap kind s) steps out named → HasSourceTrap p
@@ -81,18 +81,18 @@ module _ {C : Type 0} (picks : C → List ℕ → Option ℕ → C → Type 0) (
       let r = h.run in
       let is = trap_is h.end (has_left h.after) kind s h.told in
       let traps = (subst (λ e. Ends picks code (limits_in o) o.steps (length r.streams) r.last h.last h.after e) is r.ends).1 in
-      faithful.traps o.streams (some, few) (r.streams ++ s ∷ []) kind (run_traps picks code (limits_in o) c (start code o.streams) r.streams r.last h.last s kind r.follows traps)
+      faithful.traps o.processors o.streams machine (r.streams ++ s ∷ []) kind (run_traps picks code (limits_in o) c (start code o.processors o.streams) r.streams r.last h.last s kind r.follows traps)
 
-module _ (p : Program) (code : Code) (o : Options) (steps : ℕ) (out named : List ℕ) (faithful : Faithful p code) (some : 1 ≤ o.streams) (few : o.streams ≤ 1024) where
+module _ (p : Program) (code : Code) (o : Options) (steps : ℕ) (out named : List ℕ) (faithful : Faithful p code) (machine : IsMachine o.processors o.streams) where
   pub output_of : (source : Source) → Plays source code o ending.Ended steps out named → IsSourceOutput p out
-  output_of Turns h = output_by PicksInTurn (λ (from : ℕ). false) 0 p code o steps out named faithful some few h
-  output_of (Seed n) h = output_by PicksBySeed (λ (x : ℕ). false) n p code o steps out named faithful some few h
-  output_of (Schedule entries) h = output_by PicksNext (λ (left : List ℕ). nat_lt 0 (length left)) entries p code o steps out named faithful some few h
+  output_of Turns h = output_by PicksInTurn (λ (from : ℕ). false) 0 p code o steps out named faithful machine h
+  output_of (Seed n) h = output_by PicksBySeed (λ (x : ℕ). false) n p code o steps out named faithful machine h
+  output_of (Schedule entries) h = output_by PicksNext (λ (left : List ℕ). nat_lt 0 (length left)) entries p code o steps out named faithful machine h
 
   pub trap_of : (source : Source) (kind : TrapKind) (s : ℕ) → Plays source code o (ending.Trap kind s) steps out named → HasSourceTrap p
-  trap_of Turns kind s h = trap_by PicksInTurn (λ (from : ℕ). false) 0 p code o steps out named faithful some few kind s h
-  trap_of (Seed n) kind s h = trap_by PicksBySeed (λ (x : ℕ). false) n p code o steps out named faithful some few kind s h
-  trap_of (Schedule entries) kind s h = trap_by PicksNext (λ (left : List ℕ). nat_lt 0 (length left)) entries p code o steps out named faithful some few kind s h
+  trap_of Turns kind s h = trap_by PicksInTurn (λ (from : ℕ). false) 0 p code o steps out named faithful machine kind s h
+  trap_of (Seed n) kind s h = trap_by PicksBySeed (λ (x : ℕ). false) n p code o steps out named faithful machine kind s h
+  trap_of (Schedule entries) kind s h = trap_by PicksNext (λ (left : List ℕ). nat_lt 0 (length left)) entries p code o steps out named faithful machine kind s h
 
 -- ---- what a status says of the run
 
@@ -124,15 +124,15 @@ ok_sourced : (p : Program) (o : Options) (code : Code) (schedule : Option (List 
     → Faithful p code → Executes o code schedule (Ok shown) out err → IsSourceOutput p out
 ok_sourced p o code schedule shown out err faithful (NoSchedule r) = absurd (let is = r.is_status in cc)
 ok_sourced p o code schedule shown out err faithful (WasRun r) =
-    let is = ended_told r.why shown (record { steps = r.steps; streams = o.streams }) r.is_status in
-    output_of p code o r.steps out r.named faithful r.some r.few r.source (subst (λ w. Plays r.source code o w r.steps out r.named) is r.plays)
+    let is = ended_told r.why shown (record { steps = r.steps; streams = o.streams; processors = o.processors }) r.is_status in
+    output_of p code o r.steps out r.named faithful r.machine r.source (subst (λ w. Plays r.source code o w r.steps out r.named) is r.plays)
 
 trap_sourced : (p : Program) (o : Options) (code : Code) (schedule : Option (List ℕ)) (shown : Option TrapShown) (out err : List ℕ)
     → Faithful p code → Executes o code schedule (Trap shown) out err → HasSourceTrap p
 trap_sourced p o code schedule shown out err faithful (NoSchedule r) = absurd (let is = r.is_status in cc)
 trap_sourced p o code schedule shown out err faithful (WasRun r) =
-    let t = trap_told r.why shown (record { steps = r.steps; streams = o.streams }) r.is_status in
-    trap_of p code o r.steps out r.named faithful r.some r.few r.source t.0 t.1 (subst (λ w. Plays r.source code o w r.steps out r.named) t.2 r.plays)
+    let t = trap_told r.why shown (record { steps = r.steps; streams = o.streams; processors = o.processors }) r.is_status in
+    trap_of p code o r.steps out r.named faithful r.machine r.source t.0 t.1 (subst (λ w. Plays r.source code o w r.steps out r.named) t.2 r.plays)
 
 ran_source : (options : Options) (file text : List ℕ) (o : Options) (code : Code) (schedule : Option (List ℕ)) (status : Status) (out err : List ℕ)
     → IsSourceCode text code → Executes o code schedule status out err → IsSourced (Run options file) text status out

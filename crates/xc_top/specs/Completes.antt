@@ -1,5 +1,5 @@
 -- What a command answers to a text with a tree, where there is room for its program.
-use Rattle.std.specs.Prelude.{◌≡◌, ◌≤◌, ℕ, List, None}
+use Rattle.std.specs.Prelude.{◌≡◌, ◌≤◌, ◌*◌, ℕ, List, None}
 use Rattle.xc_tree.specs.declared.tree.Tree.{Tree}
 use Rattle.xc_meaning.specs.Terms.{Program, program_of}
 use Rattle.xc_gen.specs.Unbuilt.{unbuilt_of}
@@ -19,8 +19,8 @@ use Rattle.xc_top.specs.Judges.{IsSourceOutput, HasSourceTrap}
 pub record HasRoom (o : Options) (p : Program) : Type 0 where
   pub ticks : ℕ
   pub are_few : TicksAtMost p ticks
-  pub steps : step_bound (largest p.body) o.streams ticks ≤ o.steps
-  pub words : word_bound (words_of_globals p) (largest p.body) o.streams ≤ o.words
+  pub steps : step_bound (largest p.body) (o.processors * o.streams) ticks ≤ o.steps
+  pub words : word_bound (words_of_globals p) (largest p.body) (o.processors * o.streams) ≤ o.words
   pub output : PrintsAtMost p o.out
 
 -- a schedule is named

@@ -7,12 +7,13 @@ use Rattle.xc_tree.specs.declared.tree.Tree.{Tree}
 use Rattle.xc_meaning.specs.Terms.{Program, program_of}
 use Rattle.xc_meaning.specs.Source.{SourceRun, HasEnded}
 use Rattle.xc_isa.specs.declared.code.Code.{Code}
+use Rattle.xc_gen.specs.Faithful.{IsMachine}
 use Rattle.xc_driver.specs.declared.fault.RefusalKind.{RefusalKind}
 use Rattle.xc_driver.specs.declared.fault.RefusalKind.TheVariants as refusal
 use Rattle.xc_driver.specs.Compiles.{IsTreeOf, IsCodeOf, IsOnlyTree, IsRefusal, IsOnlyRefusal}
 use Rattle.xc_text_lines.specs.Grammar.{IsFirstBad}
 use Rattle.xc_isa_text.specs.Texts.{contents_of, Spells as SpellsCode, IsAssembly}
-use Rattle.xc_sched.specs.Runs.{Spells as SpellsSteps, IsSchedule}
+use Rattle.xc_sched.specs.Runs.{IsRead, IsSchedule}
 use Rattle.xc_top_words.specs.declared.command.Choice.{Choice}
 use Rattle.xc_top_words.specs.declared.command.Choice.TheVariants as choice
 use Rattle.xc_top_words.specs.declared.command.Options.{Options}
@@ -72,7 +73,7 @@ abbrev pub Chooses : Choice → Option (List ℕ) → Source → Type 0
 Chooses choice.Turns schedule s = s ≡ source.Turns
 Chooses (choice.Seed n) schedule s = s ≡ source.Seed n
 Chooses (choice.Schedule file) None s = ⊥
-Chooses (choice.Schedule file) (Some text) s = (steps : List ℕ) × SpellsSteps text steps × (s ≡ source.Schedule steps)
+Chooses (choice.Schedule file) (Some text) s = (steps : List ℕ) × IsRead text steps × (s ≡ source.Schedule steps)
 
 -- line k is the first bad one of a schedule's text
 abbrev pub IsBadSchedule : Choice → Option (List ℕ) → List ℕ → ℕ → Type 0
@@ -117,14 +118,13 @@ IsSourced (Compile file) text status out = Unit {0}
 pub record IsRun (o : Options) (code : Code) (schedule : Option (List ℕ)) (status : Status) (out err : List ℕ) : Type 0 where
   pub source : Source
   pub chooses : Chooses o.choice schedule source
-  -- on 1 to 1,024 streams
-  pub some : 1 ≤ o.streams
-  pub few : o.streams ≤ 1024
+  -- on 1 to 64 processors of 1 to 128 streams each
+  pub machine : IsMachine o.processors o.streams
   pub why : Ending
   pub steps : ℕ
   pub named : List ℕ
   pub plays : Plays source code o why steps out named
-  pub is_status : status ≡ status_of why (record { steps = steps; streams = o.streams })
+  pub is_status : status ≡ status_of why (record { steps = steps; streams = o.streams; processors = o.processors })
   pub choices : Option (List ℕ)
   pub is_record : IsRecord o.recorded named choices
   pub says : err ≡ with_choices (line_of status) choices

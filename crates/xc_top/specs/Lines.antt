@@ -1,5 +1,5 @@
 -- What the top call writes to err.
-use Rattle.std.specs.Prelude.{ℕ, List, [], ◌++◌, codes, decimal, Option, Some, None}
+use Rattle.std.specs.Prelude.{ℕ, ◌==◌, List, [], ◌++◌, codes, decimal, Option, Some, None, if◌then◌else◌}
 use Rattle.xc_isa.specs.declared.instr.TrapKind.{TrapKind}
 use Rattle.xc_isa.specs.declared.instr.TrapKind.TheVariants.{Divide, Index, Range, Objects, Place, Size, Format, Code, Jump}
 use Rattle.xc_top.specs.declared.status.FileKind.{FileKind}
@@ -38,9 +38,13 @@ trap_text Jump = codes "jump"
 abbrev pub number_text : List ℕ → ℕ → List ℕ
 number_text name n = name ++ decimal n
 
+-- one processor is not told
+abbrev pub processors_text : ℕ → List ℕ
+processors_text n = if n == 1 then [] else number_text (codes " processors=") n
+
 -- the end of each line about a run
 abbrev pub numbers_text : Numbers → List ℕ
-numbers_text n = number_text (codes " steps=") n.steps ++ number_text (codes " streams=") n.streams ++ codes "\n"
+numbers_text n = number_text (codes " steps=") n.steps ++ number_text (codes " streams=") n.streams ++ processors_text n.processors ++ codes "\n"
 
 abbrev pub place_text : List ℕ → ℕ → ℕ → List ℕ → List ℕ
 place_text name line col what = codes "xmtc: " ++ name ++ number_text (codes ":") line ++ number_text (codes ":") col ++ codes ": " ++ what ++ codes "\n"

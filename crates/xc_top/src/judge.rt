@@ -9,7 +9,7 @@ ghost use Rattle.xc_top.specs.Lines.{line_of};
 ghost use Rattle.xc_top.specs.Answers.{limit_in};
 ghost use Rattle.xc_isa_text.specs.Texts.{contents_of, Spells};
 ghost use Rattle.xc_text_lines.specs.Grammar.{IsFirstBad};
-ghost use Rattle.xc_sched.specs.Runs.{Spells as SpellsSteps, IsSchedule};
+ghost use Rattle.xc_sched.specs.Runs.{IsRead, IsSchedule};
 ghost use Rattle.xc_text_place.specs.declared.Pos.{Pos};
 
 use crate::lines::line;
@@ -115,7 +115,7 @@ fn code_in(alloc: Global, command: &Command, text: &[u8]) -> Result<Code, CodeFa
 /// The steps of a schedule's text, or its first bad line.
 fn steps_in(alloc: Global, file: &Name, text: &[u8]) -> Result<Result<Source, Bad>, AllocError>
     requires { length text.now ≤ 2 ^ 26 }
-    ensures { IfOk result (λ r. MatchResult r (λ s. (steps : List ℕ) × SpellsSteps text.now steps × (s ≡ Source.Schedule steps))
+    ensures { IfOk result (λ r. MatchResult r (λ s. (steps : List ℕ) × IsRead text.now steps × (s ≡ Source.Schedule steps))
         (λ bad. (k : ℕ) × (bad ≡ Bad.Line file.now k) × IsFirstBad IsSchedule text.now k)) }
 {
     match read_schedule(alloc, text) {
@@ -214,8 +214,13 @@ fn line_and_choices(
 }
 
 /// The end of a run.
-fn plan_of_run(alloc: Global, outcome: Outcome, streams: u32) -> Result<Plan, AllocError>
-    ensures { IfOk result (λ p. (p.status ≡ status_of outcome.ending (record { steps = outcome.steps; streams = streams })) × (p.out.items ≡ outcome.out.items) × (p.err.items ≡ with_choices (line_of (status_of outcome.ending (record { steps = outcome.steps; streams = streams }))) (option_map (λ v. v.items) outcome.choices))) }
+fn plan_of_run(
+    alloc: Global,
+    outcome: Outcome,
+    streams: u32,
+    processors: u32,
+) -> Result<Plan, AllocError>
+    ensures { IfOk result (λ p. (p.status ≡ status_of outcome.ending (record { steps = outcome.steps; streams = streams; processors = processors })) × (p.out.items ≡ outcome.out.items) × (p.err.items ≡ with_choices (line_of (status_of outcome.ending (record { steps = outcome.steps; streams = streams; processors = processors }))) (option_map (λ v. v.items) outcome.choices))) }
 {
     let Outcome {
         ending,
@@ -223,7 +228,12 @@ fn plan_of_run(alloc: Global, outcome: Outcome, streams: u32) -> Result<Plan, Al
         out,
         choices,
     } = outcome;
-    let status = status(ending, Numbers { steps, streams });
+    let numbers = Numbers {
+        steps,
+        streams,
+        processors,
+    };
+    let status = status(ending, numbers);
     let text = line_and_choices(alloc, &status, &choices);
     drop(choices);
     let (err, (status, out)) = kept(text, (status, out))?;
@@ -243,7 +253,9 @@ fn execute(
     match source_in(alloc, &options.choice, schedule)? {
         Ok(source) => {
             let outcome = play(alloc, code, options, source)?;
-            plan_of_run(alloc, outcome, options.streams.number() as u32)
+            let streams = options.streams.number() as u32;
+            let processors = options.processors.number() as u32;
+            plan_of_run(alloc, outcome, streams, processors)
         }
         Err(bad) => say(alloc, Status::BadSchedule(bad)),
     }

@@ -1,7 +1,7 @@
 //! The lines on err.
 
 ghost use Rattle.std.specs.Prelude.{◌≡◌, ◌++◌, Some, string_bytes, IfOk, OnOk, codes, decimal};
-ghost use Rattle.xc_top.specs.Lines.{kind_text as kind_text_of, trap_text as trap_text_of, number_text, numbers_text, place_text, shown_line_of, trap_line_of, unfinished_line_of, bad_line_of, line_of};
+ghost use Rattle.xc_top.specs.Lines.{kind_text as kind_text_of, trap_text as trap_text_of, number_text, processors_text as processors_text_of, numbers_text, place_text, shown_line_of, trap_line_of, unfinished_line_of, bad_line_of, line_of};
 
 use crate::status::{Bad, FileKind, Numbers, Shown, Status, TrapShown};
 use itoa::Buffer;
@@ -75,7 +75,18 @@ fn push_numbers(line: &mut String, numbers: Numbers) -> Result<(), AllocError>
 {
     push_number(line, " steps=", numbers.steps)?;
     push_number(line, " streams=", u64::from(numbers.streams))?;
+    push_processors(line, numbers.processors)?;
     line.push_str("\n")
+}
+
+/// Writes how many processors there are, where it is not one.
+fn push_processors(line: &mut String, processors: u32) -> Result<(), AllocError>
+    ensures { OnOk result (string_bytes line.new ≡ string_bytes line.old ++ processors_text_of processors) }
+{
+    if processors == 1 {
+        return Ok(());
+    }
+    push_number(line, " processors=", u64::from(processors))
 }
 
 /// Writes how a run ended.

@@ -28,11 +28,12 @@ pub enum FileKind {
     Unbuilt,
 }
 
-/// What a run made of steps, on how many streams.
+/// What a run made of steps, on how many processors of how many streams each.
 #[derive(Clone, Copy)]
 pub struct Numbers {
     pub steps: u64,
     pub streams: u32,
+    pub processors: u32,
 }
 
 /// What is told of work that is done.

@@ -26,6 +26,9 @@ const E3: &str = "xmtasm 1\nglobal 1\ncells 1 0 empty\ncode\nli 1 4294967296\nld
 const TWO: &str =
     "xmtasm 1\nformat 61\nformat 62\ncode\ncreate 2 0 4\nprint 0\nprint 0\nquit\nprint 1\nprint 1\nquit\n";
 
+/// Starts three streams one after another, each of which ends at once.
+const THREE: &str = "xmtasm 1\ncode\ncreate 1 0 3\ncreate 2 0 3\ncreate 3 0 3\nquit\n";
+
 const USAGE: &str = "usage: xmtc COMMAND [OPTIONS] FILE\n";
 
 /// Runs a command line over files; `''` in it is the empty word, and the puts on out with the numbers in `failing` fail.
@@ -253,7 +256,7 @@ fn assembly(rt: HostRuntime) -> Result<(), Fail> {
             "",
             0,
             "14\n",
-            "ended steps=3 streams=8\nschedule 1\n0 3\n",
+            "ended steps=3 streams=8\nschedule 2\n0 0 3\n",
         ),
         (
             "exec --schedule s a.s",
@@ -277,7 +280,7 @@ fn assembly(rt: HostRuntime) -> Result<(), Fail> {
             "0 1\n1 1\n",
             7,
             "",
-            "badchoice step=1 steps=1 streams=8\nschedule 1\n0 1\n1 1\n",
+            "badchoice step=1 steps=1 streams=8\nschedule 2\n0 0 1\n0 1 1\n",
         ),
         (
             "exec --schedule s a.s",
@@ -461,6 +464,106 @@ fn assembly(rt: HostRuntime) -> Result<(), Fail> {
     check(&rt, rt.alloc(), &rows)
 }
 
+/// Each row is a command line, the schedule, the code, and what stands on err.
+#[test]
+fn processors(rt: HostRuntime) -> Result<(), Fail> {
+    let rows = [
+        (
+            "--processors 2 --streams 2",
+            "",
+            0,
+            "ended steps=7 streams=2 processors=2\n",
+        ),
+        (
+            "--processors=2 --streams=2 --schedule s",
+            "schedule 2\n0 0 4\n0 1 1\n1 0 1\n1 1 1\n",
+            0,
+            "ended steps=7 streams=2 processors=2\n",
+        ),
+        (
+            "--processors 2 --streams 2 --schedule s",
+            "schedule 1\n0 4\n128 1\n1 1\n129 1\n",
+            0,
+            "ended steps=7 streams=2 processors=2\n",
+        ),
+        (
+            "--processors 2 --streams 2 --record --schedule s",
+            "schedule 1\n0 1\n128 1\n0 3\n1 1\n128 1\n",
+            0,
+            "ended steps=7 streams=2 processors=2\nschedule 2\n0 0 1\n1 0 1\n0 0 3\n0 1 1\n1 0 1\n",
+        ),
+        (
+            "--processors 1 --streams 2 --schedule s",
+            "schedule 2\n0 0 4\n1 0 1\n",
+            7,
+            "badchoice step=4 steps=4 streams=2\n",
+        ),
+        (
+            "--processors 2 --streams 1 --schedule s",
+            "schedule 2\n0 0 1\n0 1 1\n",
+            7,
+            "badchoice step=1 steps=1 streams=1 processors=2\n",
+        ),
+        (
+            "--processors 64 --streams 128",
+            "",
+            0,
+            "ended steps=7 streams=128 processors=64\n",
+        ),
+        (
+            "--schedule s",
+            "schedule 2\n64 0 1\n",
+            7,
+            "xmtc: s:2:1: schedule\n",
+        ),
+        (
+            "--schedule s",
+            "schedule 2\n0 128 1\n",
+            7,
+            "xmtc: s:2:1: schedule\n",
+        ),
+        (
+            "--schedule s",
+            "schedule 2\n0 0 1\n0 0 1\n",
+            7,
+            "xmtc: s:3:1: schedule\n",
+        ),
+        (
+            "--schedule s",
+            "schedule 1\n1024 1\n",
+            7,
+            "xmtc: s:2:1: schedule\n",
+        ),
+        (
+            "--schedule s",
+            "schedule 2\n0 1\n",
+            7,
+            "xmtc: s:2:1: schedule\n",
+        ),
+        (
+            "--schedule s",
+            "schedule 1\n0 0 1\n",
+            7,
+            "xmtc: s:2:1: schedule\n",
+        ),
+    ];
+    let alloc = rt.alloc();
+    for (options, schedule, code, err) in rows {
+        let mut line = String::from_str(alloc, "exec a.s ")?;
+        line.push_str(options)?;
+        let left = run(
+            alloc,
+            line.as_str(),
+            &[("a.s", THREE), ("s", schedule)],
+            &[],
+        )?;
+        let fits = left.is(code, "", err);
+        drop((left, line));
+        assert!(rt; fits, "{options} {schedule}");
+    }
+    Ok(())
+}
+
 fn check_usage(rt: &impl Abort, alloc: Global, lines: &[&str]) -> Result<(), Fail> {
     for line in lines {
         let left = run(alloc, line, &[("a.s", E1), ("s", "schedule 1\n")], &[])?;
@@ -490,7 +593,10 @@ fn words_that_are_no_command(rt: HostRuntime) -> Result<(), Fail> {
         "exec a.s -- b.s",
         "exec ''",
         "exec --streams 0 a.s",
-        "exec --streams 1025 a.s",
+        "exec --streams 129 a.s",
+        "exec --processors 0 a.s",
+        "exec --processors 65 a.s",
+        "exec --processors 1 --processors=1 a.s",
         "exec --streams 08 a.s",
         "exec --streams +8 a.s",
         "exec --streams= a.s",

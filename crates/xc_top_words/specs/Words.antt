@@ -35,7 +35,7 @@ line_of rules = record { top = record (new_shape (codes "xmtc")) { no_binary_nam
 
 -- the options of a run that have a value
 abbrev pub option_names : List Text
-option_names = codes "streams" ∷ codes "seed" ∷ codes "schedule" ∷ codes "steps" ∷ codes "words" ∷ codes "out" ∷ []
+option_names = codes "processors" ∷ codes "streams" ∷ codes "seed" ∷ codes "schedule" ∷ codes "steps" ∷ codes "words" ∷ codes "out" ∷ []
 
 unfoldable pub run_line : App
 run_line = line_of (map option option_names ++ flag (codes "record") ∷ file ∷ [])
@@ -90,13 +90,15 @@ is_given (Some v) = bytes_eq v (codes "true")
 -- ---- commands
 
 -- none where one of them is none
-abbrev pub options_from : Option ℕ → Option ℕ → Option ℕ → Option ℕ → Option Choice → Bool → Option Options
-options_from (Some streams) (Some steps) (Some words) (Some out) (Some choice) recorded = Some (record { streams = streams; choice = choice; steps = steps; words = words; out = out; recorded = recorded })
-options_from _ _ _ _ _ recorded = None
+abbrev pub options_from : Option ℕ → Option ℕ → Option ℕ → Option ℕ → Option ℕ → Option Choice → Bool → Option Options
+options_from (Some processors) (Some streams) (Some steps) (Some words) (Some out) (Some choice) recorded =
+    Some (record { processors = processors; streams = streams; choice = choice; steps = steps; words = words; out = out; recorded = recorded })
+options_from _ _ _ _ _ _ recorded = None
 
 abbrev pub options_of : List Row → Option Options
 options_of rows = options_from
-    (number_or 8 (number_from 1 1024) (value_in (codes "streams") rows))
+    (number_or 1 (number_from 1 64) (value_in (codes "processors") rows))
+    (number_or 8 (number_from 1 128) (value_in (codes "streams") rows))
     (number_or 10000000 (number_from 0 (2 ^ 31)) (value_in (codes "steps") rows))
     (number_or (2 ^ 20) (number_from 1 (2 ^ 24)) (value_in (codes "words") rows))
     (number_or (2 ^ 20) (number_from 0 (2 ^ 20)) (value_in (codes "out") rows))

@@ -4,7 +4,7 @@ ghost use Rattle.std.specs.Prelude.{◌≡◌, string_bytes, IfOk};
 ghost use Rattle.std.specs.Option.{option_map};
 ghost use Rattle.xc_top_words.specs.Commands.{file_in, options_in, schedule_in, schedule_of};
 
-use crate::within::{OutLimit, Steps, Streams, WordLimit};
+use crate::within::{OutLimit, Processors, Steps, Streams, WordLimit};
 use std::alloc::{AllocError, Global};
 use std::marker::Model;
 
@@ -51,7 +51,9 @@ pub enum Choice {
 /// How code is run.
 #[derive(Drop)]
 pub struct Options {
-    /// The number of streams.
+    /// The number of processors.
+    pub processors: Processors,
+    /// The number of streams on each processor.
     pub streams: Streams,
     pub choice: Choice,
     /// The most steps.

@@ -8,5 +8,5 @@ mod within;
 mod words;
 
 pub use command::{Choice, Command, Name, Options};
-pub use within::{OutLimit, Steps, Streams, Within, WordLimit};
+pub use within::{OutLimit, Processors, Steps, Streams, Within, WordLimit};
 pub use words::{WordsFault, read_command};

@@ -46,7 +46,15 @@ fn options_line<'a>(alloc: Global) -> Result<Command<'a>, AllocError>
     ensures { IfOk result (λ line. app_of line ≡ line_of (map option_rule option_names)) }
 {
     let mut line = bare_line(alloc);
-    for name in ["streams", "seed", "schedule", "steps", "words", "out"] {
+    for name in [
+        "processors",
+        "streams",
+        "seed",
+        "schedule",
+        "steps",
+        "words",
+        "out",
+    ] {
         line = line.arg(option(alloc, name))?;
     }
     Ok(line)

@@ -82,11 +82,13 @@ fn options(alloc: Global, matches: &ArgMatches<'_>) -> Result<Options, WordsFaul
     let limits = number_or(matches, "steps", 10_000_000)
         .zip(number_or(matches, "words", 1 << 20))
         .zip(number_or(matches, "out", 1 << 20));
-    let Some((streams, ((steps, words), out))) = number_or(matches, "streams", 8).zip(limits) else {
+    let machine = number_or(matches, "processors", 1).zip(number_or(matches, "streams", 8));
+    let Some(((processors, streams), ((steps, words), out))) = machine.zip(limits) else {
         return Err(WordsFault::Usage);
     };
     let choice = choice(alloc, matches)?;
     Ok(Options {
+        processors,
         streams,
         choice,
         steps,

@@ -46,8 +46,11 @@ const MOST_WORDS: u64 = 1 << 24;
 
 const MOST_OUT: u64 = 1 << 20;
 
-/// A number of streams.
-pub type Streams = Within<1, 1024>;
+/// A number of processors.
+pub type Processors = Within<1, 64>;
+
+/// A number of streams on each processor.
+pub type Streams = Within<1, 128>;
 
 /// A number of steps.
 pub type Steps = Within<0, MOST_STEPS>;

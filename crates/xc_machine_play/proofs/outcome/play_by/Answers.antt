@@ -10,9 +10,14 @@ pub returns-then-options : goal.returns-then-options
 returns-then-options g c =
     let o = c.args.options.now in
     let m = c.in-Ok.machine in
-    let state : state_of m ≡ start c.args.code.now o.streams = c.in-Ok.ensures.starts ∙ ap (start c.args.code.now) c.number-streams.ensures.value in
+    let code = c.args.code.now in
+    let n = c.number-streams.result in
+    let state : state_of m ≡ start code o.processors o.streams =
+    c.in-Ok.ensures.starts ∙ ap (λ q. start code q n) c.number-processors.ensures.value ∙ ap (start code o.processors) c.number-streams.ensures.value in
     let limits : limits_of m ≡ limits_in o = c.in-Ok.ensures.limits ∙ ap (λ n. record { words = n; out = c.number-out.result }) c.number-words.ensures.value ∙ ap (λ n. record { words = o.words; out = n }) c.number-out.ensures.value in
-    let fits = subst (λ n. live_words (start c.args.code.now n) ≤ o.words) c.number-streams.ensures.value (subst (λ w. live_words (start c.args.code.now c.number-streams.result) ≤ w) c.number-words.ensures.value c.in-Ok.ensures.full) in
+    let fits = subst (λ k. live_words (start code o.processors k) ≤ o.words) c.number-streams.ensures.value
+    (subst (λ q. live_words (start code q n) ≤ o.words) c.number-processors.ensures.value
+    (subst (λ w. live_words (start code c.number-processors.result n) ≤ w) c.number-words.ensures.value c.in-Ok.ensures.full)) in
     ok_map c.recorded.result
     (λ r h. (
       h.0,
@@ -25,9 +30,14 @@ pub returns-in-Ok : goal.returns-in-Ok
 returns-in-Ok g c =
     let o = c.args.options.now in
     let m = c.in-Ok.machine in
-    let state : state_of m ≡ start c.args.code.now o.streams = c.in-Ok.ensures.starts ∙ ap (start c.args.code.now) c.number-streams.ensures.value in
+    let code = c.args.code.now in
+    let n = c.number-streams.result in
+    let state : state_of m ≡ start code o.processors o.streams =
+    c.in-Ok.ensures.starts ∙ ap (λ q. start code q n) c.number-processors.ensures.value ∙ ap (start code o.processors) c.number-streams.ensures.value in
     let limits : limits_of m ≡ limits_in o = c.in-Ok.ensures.limits ∙ ap (λ n. record { words = n; out = c.number-out.result }) c.number-words.ensures.value ∙ ap (λ n. record { words = o.words; out = n }) c.number-out.ensures.value in
-    let fits = subst (λ n. live_words (start c.args.code.now n) ≤ o.words) c.number-streams.ensures.value (subst (λ w. live_words (start c.args.code.now c.number-streams.result) ≤ w) c.number-words.ensures.value c.in-Ok.ensures.full) in
+    let fits = subst (λ k. live_words (start code o.processors k) ≤ o.words) c.number-streams.ensures.value
+    (subst (λ q. live_words (start code q n) ≤ o.words) c.number-processors.ensures.value
+    (subst (λ w. live_words (start code c.number-processors.result n) ≤ w) c.number-words.ensures.value c.in-Ok.ensures.full)) in
     ok_map c.plain.result
     (λ r h. (
       h.1.0,

@@ -14,9 +14,10 @@ returns-in_ok-outcome-in-Ok c =
     let played = c.in_ok-outcome-in-Ok.ensures in
     IfOk-weaker c.plan_of_run.result _ _
     (λ p h.
-    was_run c.args.options.now c.args.code.now schedule c.in-Ok.source outcome.ending outcome.steps outcome.out.items (option_map (λ v. v.items) outcome.choices) played.0 c.number.result p.status p.out.items p.err.items
+    was_run c.args.options.now c.args.code.now schedule c.in-Ok.source outcome.ending outcome.steps outcome.out.items (option_map (λ v. v.items) outcome.choices) played.0 c.number-streams.result c.number-processors.result p.status p.out.items p.err.items
     (MatchResult-at_ok (λ s. Chooses choice schedule s) (λ bad. (name : List ℕ) × (k : ℕ) × (bad ≡ Line name k) × IsBadSchedule choice schedule name k) c.in-Ok.source c.in-Ok.is c.in_ok-source.ensures)
-    played.2 played.1 c.number.ensures.value c.number.ensures.low c.number.ensures.high h.0 h.1 h.2)
+    played.2 played.1 c.number-streams.ensures.value c.number-processors.ensures.value
+    ((c.number-processors.ensures.low, c.number-processors.ensures.high), (c.number-streams.ensures.low, c.number-streams.ensures.high)) h.0 h.1 h.2)
     c.plan_of_run.ensures
 
 pub returns-in-Err : goal.returns-in-Err

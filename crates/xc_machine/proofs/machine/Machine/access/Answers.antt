@@ -9,4 +9,4 @@ pub returns-clause-does : goal.returns-clause-does
 returns-clause-does c =
     let m = c.args.self.now in
     subst (Makes (limits_of m) c.touch.result (state_of m) (state_of c.touch.new.self) c.args.s)
-    (target_effect (code_of m).formats c.args.instr c.args.at (regs_at (stream_in m.slots.items c.args.s)) c.in-Some.target (sym c.target.ensures ∙ c.in-Some.is)) c.touch.ensures.does
+    (target_effect (code_of m).formats c.args.instr c.args.at (regs_at (stream_in m.seats.items c.args.s)) c.in-Some.target (sym c.target.ensures ∙ c.in-Some.is)) c.touch.ensures.does

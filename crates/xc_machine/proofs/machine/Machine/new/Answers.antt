@@ -1,13 +1,14 @@
-use Rattle.std.proofs.Common.{◌≡◌, ◌<◌, ◌≤◌, ◌^◌, ◌-◌, ◌∷◌, [], length, map, refl, sym, ap, ◌∙◌, subst, arith}
-use Rattle.std.specs.Prelude.{Some, None, slice_set, replicate}
+use Rattle.std.proofs.Common.{◌≡◌, [], length, map, sym, ap, ◌∙◌, arith}
+use Rattle.std.specs.Prelude.{slice_set}
 use Rattle.std.specs.List.{sum_by}
 use Rattle.xc_meaning_world.specs.World.{segs_of}
 use Rattle.xc_isa.specs.Texts.{cells_of, size_of}
-use Rattle.xc_isa.specs.Machine.{Live, Empty, start, live_words, words_up_to}
-use Rattle.xc_machine.specs.declared.start.NewFault.TheVariants.{Words}
-use Rattle.xc_machine.specs.Shows.{segs_in, slot_of}
+use Rattle.xc_isa.specs.Machine.{Live, free_slots, start, live_words, words_up_to}
+use Rattle.xc_machine_slots.specs.declared.seat.Seat.TheVariants.{Taken}
+use Rattle.xc_machine.specs.Shows.{segs_in}
+use Rattle.xc_machine_slots.specs.Seats.{slot_of}
 use Rattle.xc_machine.specs.Stores.{shown}
-use Rattle.xc_machine.proofs.Slots.{slots_put, free_slots_of}
+use Rattle.xc_machine.proofs.Slots.{slots_put}
 use Rattle.xc_machine.proofs.Globals.{few_globals, start_words, words_of_globals, none_past, length_globals}
 use Rattle.xc_machine.proofs.machine.Machine.new.Goals as goal
 
@@ -46,27 +47,26 @@ starting-store-requires-clause-counted c =
 
 pub returns-then-live-words-clause-full : goal.returns-then-live-words-clause-full
 returns-then-live-words-clause-full c = λ n e.
-    let is : c.words_in-live.result ≡ live_words (start c.args.code.now c.args.streams) = c.words_in-live.ensures ∙ ap (sum_by size_of) c.as_slice-globals.ensures ∙ sym (start_words c.args.code.now c.args.streams) in
+    let is : c.words_in-live.result ≡ live_words (start c.args.code.now c.args.processors c.args.streams) = c.words_in-live.ensures ∙ ap (sum_by size_of) c.as_slice-globals.ensures ∙ sym (start_words c.args.code.now c.args.processors c.args.streams) in
     let same : c.words_in-live.result ≡ n = cc in
     let more = c.if-live-words.true in
     (sym same ∙ is, omega (arith, same, more))
 
 pub returns-clause-full : goal.returns-clause-full
 returns-clause-full c =
-    let is : c.words_in-live.result ≡ live_words (start c.args.code.now c.args.streams) = c.words_in-live.ensures ∙ ap (sum_by size_of) c.as_slice-globals.ensures ∙ sym (start_words c.args.code.now c.args.streams) in
+    let is : c.words_in-live.result ≡ live_words (start c.args.code.now c.args.processors c.args.streams) = c.words_in-live.ensures ∙ ap (sum_by size_of) c.as_slice-globals.ensures ∙ sym (start_words c.args.code.now c.args.processors c.args.streams) in
     let within = c.if-live-words.false in
     omega (arith, is, within)
 
 pub returns-clause-starts : goal.returns-clause-starts
 returns-clause-starts c =
     let code = c.args.code.now in
-    let slots : map slot_of (slice_set c.in_ok-slots.slots.items 0 (Some c.first.result)) ≡ slice_set (replicate c.args.streams Empty) 0 (Live 0 (λ x. 0)) =
-    slots_put c.in_ok-slots.slots.items 0 (Some c.first.result) (Live 0 (λ x. 0)) c.first.ensures
-    ∙ ap (λ xs. slice_set (map slot_of xs) 0 (Live 0 (λ x. 0))) c.in_ok-slots.ensures
-    ∙ ap (λ xs. slice_set xs 0 (Live 0 (λ x. 0))) (free_slots_of c.args.streams) in
+    let slots : map slot_of (slice_set c.in_ok-seats.seats.items 0 (Taken c.first.result)) ≡ slice_set (free_slots c.args.processors c.args.streams) 0 (Live 0 (λ x. 0)) =
+    slots_put c.in_ok-seats.seats.items 0 (Taken c.first.result) (Live 0 (λ x. 0)) c.first.ensures
+    ∙ ap (λ xs. slice_set xs 0 (Live 0 (λ x. 0))) c.in_ok-seats.ensures.seats in
     let globals = c.as_slice-globals.ensures in
     let segs : segs_in c.in_ok-memory.memory ≡ segs_of (map cells_of code.globals) = c.in_ok-memory.ensures ∙ ap (λ gs. segs_of (map cells_of gs)) globals in
     ap (λ xs. record { slots = xs; world = shown c.starting-store.result; last = c.starting-store.result.last }) slots
-    ∙ ap (λ w. record { slots = (start code c.args.streams).slots; world = w; last = c.starting-store.result.last }) c.starting-store.ensures.shown
-    ∙ ap (λ s. record { slots = (start code c.args.streams).slots; world = record { segs = s; out = [] }; last = c.starting-store.result.last }) segs
-    ∙ ap (λ n. record { slots = (start code c.args.streams).slots; world = (start code c.args.streams).world; last = n }) (c.starting-store.ensures.last ∙ ap length globals)
+    ∙ ap (λ w. record { slots = (start code c.args.processors c.args.streams).slots; world = w; last = c.starting-store.result.last }) c.starting-store.ensures.shown
+    ∙ ap (λ s. record { slots = (start code c.args.processors c.args.streams).slots; world = record { segs = s; out = [] }; last = c.starting-store.result.last }) segs
+    ∙ ap (λ n. record { slots = (start code c.args.processors c.args.streams).slots; world = (start code c.args.processors c.args.streams).world; last = n }) (c.starting-store.ensures.last ∙ ap length globals)

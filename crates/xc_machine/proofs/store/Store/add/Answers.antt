@@ -1,8 +1,4 @@
-use Rattle.std.proofs.Common.{rules, ◌≡◌, ◌+◌, suc, refl, sym, ap, ◌∙◌, arith}
-use Rattle.std.specs.Prelude.{replicate}
-use Rattle.xc_word.specs.Cells.{fresh}
-use Rattle.xc_meaning_world.specs.World.{put}
-use Rattle.xc_machine.specs.Shows.{segs_in}
+use Rattle.std.proofs.Common.{rules, ◌+◌, refl, ap, arith}
 use Rattle.xc_machine.proofs.WordCounts.{added_segs, added_count, added_beyond}
 use Rattle.xc_machine.proofs.store.Store.add.Goals as goal
 

@@ -1,9 +1,8 @@
-use Rattle.std.proofs.Common.{rules, ◌≡◌, ◌+◌, length, refl, sym, ap, ◌∙◌, arith}
+use Rattle.std.proofs.Common.{rules, refl, sym, ap, ◌∙◌, arith}
 use Rattle.xc_meaning_world.specs.World.{Got}
-use Rattle.xc_isa.specs.Machine.{words_up_to}
-use Rattle.xc_machine.specs.Shows.{segs_in, world_in}
+use Rattle.xc_machine.specs.Shows.{world_in}
 use Rattle.std.specs.Prelude.{Some}
-use Rattle.xc_machine.proofs.Shown.{free_served, free_dead}
+use Rattle.xc_machine.proofs.Shown.{free_served}
 use Rattle.xc_machine.proofs.WordCounts.{freed_count, freed_beyond}
 use Rattle.xc_machine.proofs.store.Store.free.Goals as goal
 

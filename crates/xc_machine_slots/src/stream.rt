@@ -1,25 +1,24 @@
 //! A stream: its position and its registers.
 
-ghost use Rattle.std.specs.Prelude.{◌≡◌, Some, map};
+ghost use Rattle.std.specs.Prelude.{◌≡◌, map};
 ghost use Rattle.xc_isa.specs.Effects.{read, printed_regs};
 ghost use Rattle.xc_isa.specs.Machine.{Live, begun as begun_of};
-ghost use Rattle.xc_machine.specs.Registers.{regs_of};
-ghost use Rattle.xc_machine.specs.InnerRegisters.{answered};
-ghost use Rattle.xc_machine.specs.Shows.{slot_of};
+ghost use Rattle.xc_machine_slots.specs.Registers.{regs_of};
+ghost use Rattle.xc_machine_slots.specs.Registers.{answered};
 
 use xc_isa::Reg;
 
 /// The position of the next instruction, and the registers.
 #[derive(Clone, Copy)]
-pub(crate) struct Stream {
-    pub(crate) at: u64,
-    pub(crate) regs: [u64; 32],
+pub struct Stream {
+    pub at: u64,
+    pub regs: [u64; 32],
 }
 
 impl Stream {
     /// The stream that a machine starts with.
-    pub(crate) fn first() -> Stream
-        ensures { slot_of (Some result) ≡ Live 0 (λ x. 0) }
+    pub fn first() -> Stream
+        ensures { Live result.at (regs_of result.regs) ≡ Live 0 (λ x. 0) }
     {
         Stream {
             at: 0,
@@ -28,8 +27,8 @@ impl Stream {
     }
 
     /// A stream as it starts: r1 has the word.
-    pub(crate) fn begun(at: u32, word: u64) -> Stream
-        ensures { slot_of (Some result) ≡ begun_of at word }
+    pub fn begun(at: u32, word: u64) -> Stream
+        ensures { Live result.at (regs_of result.regs) ≡ begun_of at word }
     {
         let mut regs = [0; 32];
         regs[1] = word;
@@ -40,7 +39,7 @@ impl Stream {
     }
 
     /// What a register holds.
-    pub(crate) fn read(&self, r: Reg) -> u64
+    pub fn read(&self, r: Reg) -> u64
         ensures { result ≡ read (regs_of self.now.regs) r }
     {
         if r.number() == 0 {
@@ -51,7 +50,7 @@ impl Stream {
     }
 
     /// The registers from r24 on, which are printed.
-    pub(crate) fn printed(&self) -> [u64; 8]
+    pub fn printed(&self) -> [u64; 8]
         ensures { result ≡ map (read (regs_of self.now.regs)) printed_regs }
     {
         [
@@ -67,7 +66,7 @@ impl Stream {
     }
 
     /// The stream goes on at another position, with a word in a register where one is named.
-    pub(crate) fn go(&mut self, at: u64, to: Option<Reg>, word: u64)
+    pub fn go(&mut self, at: u64, to: Option<Reg>, word: u64)
         ensures at { self.new.at ≡ at }
         ensures regs { regs_of self.new.regs ≡ answered (regs_of self.old.regs) to word }
     {

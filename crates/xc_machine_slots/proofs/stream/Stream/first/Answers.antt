@@ -1,7 +1,7 @@
 use Rattle.std.proofs.Common.{ap}
 use Rattle.xc_isa.specs.Machine.{Live}
-use Rattle.xc_machine.proofs.Slots.{zero_regs}
-use Rattle.xc_machine.proofs.stream.Stream.first.Goals as goal
+use Rattle.xc_machine_slots.proofs.Registers.{zero_regs}
+use Rattle.xc_machine_slots.proofs.stream.Stream.first.Goals as goal
 
 pub returns : goal.returns
 returns c = ap (Live 0) zero_regs

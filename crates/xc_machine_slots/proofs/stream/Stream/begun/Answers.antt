@@ -1,8 +1,8 @@
-use Rattle.std.proofs.Common.{ap, ◌∙◌, sym}
+use Rattle.std.proofs.Common.{ap, ◌∙◌}
 use Rattle.xc_isa.specs.Machine.{Live}
 use Rattle.xc_meaning_world.specs.World.{put}
-use Rattle.xc_machine.proofs.Slots.{begun_regs}
-use Rattle.xc_machine.proofs.stream.Stream.begun.Goals as goal
+use Rattle.xc_machine_slots.proofs.Registers.{begun_regs}
+use Rattle.xc_machine_slots.proofs.stream.Stream.begun.Goals as goal
 
 pub returns : goal.returns
 returns c = ap (Live c.from.result) (begun_regs c.args.word) ∙ ap (λ p. Live p (put (λ x. 0) 1 c.args.word)) c.from.ensures

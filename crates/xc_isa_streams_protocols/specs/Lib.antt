@@ -1,0 +1,4 @@
+pub mod Weights
+pub mod Protocol
+pub mod Alone
+pub mod Holding
