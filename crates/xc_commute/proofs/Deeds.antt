@@ -28,6 +28,6 @@ deeds_independent Traps b n = trap_first b
 
 pub quiet_by_touches : (p : Program Deed Segments State) (Cells : State → Segments → Deed → Type 0) → ActsOnMemory p → IsQuiet p Cells → Quiet p Cells
 quiet_by_touches p Cells e q = record {
-  next = λ h s m src u v t n a c o is may g. subst (λ f. Indep f a c) (sym e) (deeds_independent a c (q.next h s m src u v t n a c o is may g));
+  next = λ h s m src u v t n a c o is may g fits. subst (λ f. Indep f a c) (sym e) (deeds_independent a c (q.next h s m src u v t n a c o is may g fits));
   cells = λ h s m src u v c d ne o w. subst (λ f. Indep f c d) (sym e) (deeds_independent c d (q.cells h s m src u v c d ne o w));
 }

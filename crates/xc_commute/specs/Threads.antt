@@ -35,7 +35,7 @@ State = ℕ × List Deed
 pub record IsQuiet (p : Program Deed Segments State) (Cells : State → Segments → Deed → Type 0) : Type 0 where
   pub next : (h : List (ℕ × Deed)) (s : ℕ → Stand State Segments) (m : Segments) → Source p h s m →
       (u v : ℕ) (t n : State) (a c : Deed) → CellsAt Cells (s u) c → s v ≡ Free t → p.Allowed (λ w. erase (s w)) v a → p.can t a n →
-      ¬ DeedsConflict a c
+      p.Fits a m → ¬ DeedsConflict a c
   pub cells : (h : List (ℕ × Deed)) (s : ℕ → Stand State Segments) (m : Segments) → Source p h s m →
       (u v : ℕ) (c d : Deed) → u ≢ v → CellsAt Cells (s u) c → CellsAt Cells (s v) d →
       ¬ DeedsConflict c d

@@ -1,7 +1,7 @@
 //! Programs of several threads over tagged memory, whose loops may run as teams.
 
 ghost use Rattle.xc_word.specs.Cells.{Segments};
-ghost use Rattle.xc_commute_histories.specs.Runs.{Program, OneLoop};
+ghost use Rattle.xc_commute_histories.specs.Runs.{Program, AnswersFit, OneLoop};
 ghost use Rattle.xc_commute_histories.specs.GoesBack.{GoesBack};
 ghost use Rattle.xc_commute.specs.Threads.{Deed, State, IsTrap, IsQuiet, ActsOnMemory};
 
@@ -16,6 +16,7 @@ pub trait MemoryThreads {
 pub fn memory_teams_go_back<P: MemoryThreads>()
     requires memory { ActsOnMemory P.program }
     requires quiet { IsQuiet P.program P.cells }
+    requires answers { AnswersFit P.program P.cells }
     requires each_loop { OneLoop P.program P.cells IsTrap }
     ensures { GoesBack P.program IsTrap }
 {}

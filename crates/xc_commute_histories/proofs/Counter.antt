@@ -3,7 +3,7 @@ use Rattle.std.specs.Prelude.{◌≡◌, ◌≢◌, ℕ, zero, suc, Some, List, 
 use Rattle.std.proofs.Common.{refl, ap, sym, ◌∙◌, subst, inl, inr}
 use Rattle.std.proofs.lemmas.Bool.Decides.{eqb_tells}
 use Rattle.xc_commute_histories.specs.History.{Is}
-use Rattle.xc_commute_histories.specs.Runs.{Stand, Free, At, Plain, In, put, Source, begin, act, spawn, enter, go_on, TeamRun, begins, acts_alone, enters, member, leaves}
+use Rattle.xc_commute_histories.specs.Runs.{Stand, Free, At, Plain, In, put, put_all, Source, begin, act, enter, go_on, TeamRun, begins, acts_alone, enters, member, leaves}
 use Rattle.xc_commute_histories.specs.Counter.{Two, Deed, EnterLoop, ReadOne, Fill, WaitFull, SetOne, Spot, Ready, Standing, AtZero, Filling, Leaving, Trapped, Waiting, Setting, Ended, does_it, Goes, goes_in, reads_zero, traps_there, reads_one, fills, goes_out, waits, sets, filled, filled_then_read, out, begin_at, program, InLoop, QuietOfActions}
 use Rattle.xc_commute_histories.proofs.OpenLoops.{none_some}
 
@@ -83,13 +83,12 @@ goes_on (suc (suc u)) t e f = absurd (cc)
 -- no source run changes the memory: thread 1 waits for ever, since thread 0 traps before it fills
 pub kept : {h : List (ℕ × Deed)} {s : ℕ → Stand Spot Two} {m : Two} → Source program h s m → (m ≡ no_memory_yet) × ((u : ℕ) → Fine u (s u))
 kept begin = (refl, begins_fine)
-kept (act {s = s} {m = m} src u t n a k is may c e) =
+kept (act {s = s} {m = m} src u t n a k is may c e ws starts un) =
     let i = kept src in
     let f : Fine u (Free t) = rw is at (i.1 u) in
     let o = one_step u t n a k f c (ap (does_it a) (sym i.0) ∙ e) in
-    (o.0, λ v. put_when (λ z. Fine v z) s u (Free n) v (λ g. subst (λ z. Fine z (Free n)) (sym g) o.1) (λ _. i.1 v))
-kept (spawn src u t n a k is may c e ws starts o) = absurd starts
-kept (enter {s = s} {m = m} src u t n a k is may c opens e) =
+    (o.0, λ v. subst (λ l. Fine v (put_all Free (put s u (Free n)) l v)) (sym starts) (put_when (λ z. Fine v z) s u (Free n) v (λ g. subst (λ z. Fine z (Free n)) (sym g) o.1) (λ _. i.1 v)))
+kept (enter {s = s} {m = m} src u t n a k is may c opens e starts) =
     let i = kept src in
     let f : Fine u (Free t) = rw is at (i.1 u) in
     let o = one_step u t n a k f c (ap (does_it a) (sym i.0) ∙ e) in
@@ -111,10 +110,10 @@ ends =
     (acts_alone
     (acts_alone
     (member
-    (enters begins 0 Ready Standing EnterLoop _ refl tt goes_in refl refl)
+    (enters begins 0 Ready Standing EnterLoop _ refl tt goes_in refl refl refl)
     0 Standing Fill (record { full = true; one = false }) refl filled refl)
-    1 Waiting Setting WaitFull (record { full = true; one = false }) refl tt waits refl)
-    1 Setting Ended SetOne (record { full = true; one = true }) refl tt sets refl)
+    1 Waiting Setting WaitFull (record { full = true; one = false }) refl tt waits refl [] refl tt)
+    1 Setting Ended SetOne (record { full = true; one = true }) refl tt sets refl [] refl tt)
     0 Standing ReadOne (record { full = true; one = true }) refl filled_then_read refl)
     0 Standing Ended refl out
 

@@ -2,7 +2,7 @@
 use Rattle.std.specs.Prelude.{Some}
 use Rattle.std.proofs.Common.{◌≡◌, List, [], ◌∷◌, refl, true, false}
 use Rattle.xc_commute_histories.specs.History.{hist, Each}
-use Rattle.xc_commute_histories.specs.Runs.{Block, stays, goes, Plain, In, put, TeamRun, begins, enters, member, leaves, Indep, Always, Quiet, OneLoop}
+use Rattle.xc_commute_histories.specs.Runs.{Block, stays, goes, Plain, In, put, TeamRun, begins, enters, member, leaves, Indep, Always, Quiet, AnswersFit, OneLoop}
 use Rattle.xc_commute_histories.specs.TwoFills.{Fill, Begin, FillZeroth, FillFirst, Finish, Flags, Stage, Outside, Standing, Half, Whole, Over, filled, begins as begins_loop, zeroth_turn, first_turn, finishes, first_alone, first_then_zeroth, Out, in_order, turned, begin_at, two_fills}
 
 abbrev AllCells : Stage → Flags → Fill → Type 0
@@ -32,14 +32,17 @@ any_two Finish Finish = (λ m. refl, λ m p q. (_, refl))
 
 pub quiet : Quiet two_fills AllCells
 quiet = record {
-  next = λ h s m src u v t n a c o is may g. any_two a c;
+  next = λ h s m src u v t n a c o is may g fits. any_two a c;
   cells = λ h s m src u v c d ne o w. any_two c d;
 }
+
+pub answers : AnswersFit two_fills AllCells
+answers = record { possible = λ a m is. tt; before = λ t e c o in_cells m k is a fits. tt }
 
 -- its cells are all that it does
 always : (b : List Fill) → Each (λ a. AllCells Standing (record { zeroth = false; first = false }) a × Always two_fills a) b
 always [] = tt
-always (a ∷ b) = ((tt, λ r u. tt), always b)
+always (a ∷ b) = ((tt, λ r u. (tt, refl)), always b)
 
 -- what the loop does serially
 abbrev serially : List Fill
@@ -65,7 +68,7 @@ later_first =
     leaves
     (member
     (member
-    (enters begins 0 Outside Standing Begin _ refl tt begins_loop refl refl)
+    (enters begins 0 Outside Standing Begin _ refl tt begins_loop refl refl refl)
     0 Standing FillFirst (record { zeroth = false; first = true }) refl first_alone refl)
     0 Standing FillZeroth (record { zeroth = true; first = true }) refl first_then_zeroth refl)
     0 Standing Over refl turned

@@ -3,7 +3,7 @@ use Rattle.std.specs.Prelude.{Option, Some, None}
 use Rattle.std.proofs.Common.{◌≡◌, ◌≢◌, ℕ, List, [], ◌∷◌, ◌++◌, refl, ap, sym, ◌∙◌, subst, true, false, eqb, inl, inr, eq-eqb, ne_eqb}
 use Rattle.std.proofs.lemmas.Bool.Decides.{eqb_tells}
 use Rattle.xc_commute_histories.specs.History.{after, hist, Apart, Both, Each, of_owner, of_others, Is, TrapsLast}
-use Rattle.xc_commute_histories.specs.Runs.{Stand, Free, At, Does, Plain, In, erase, put, put_all, owner, acts, Program, Block, stays, goes, Source, begin, act, spawn, enter, go_on, TeamRun, begins, acts_alone, spawns, enters, member, leaves, Indep, CellsAt, Always, OpensAt, Quiet, OneLoop, by, Shows, nothing, outside, loop}
+use Rattle.xc_commute_histories.specs.Runs.{Stand, Free, At, Does, Plain, In, erase, put, put_all, owner, acts, Program, Block, stays, goes, Source, begin, act, enter, go_on, TeamRun, begins, acts_alone, enters, member, leaves, Indep, CellsAt, Always, OpensAt, Quiet, AnswersFit, OneLoop, by, Shows, nothing, outside, loop}
 use Rattle.xc_commute_histories.specs.InnerRuns.{own_step}
 use Rattle.xc_commute_histories.proofs.Exchange.{hist-append, exchange, past, Apart-sym, all_after}
 use Rattle.xc_commute_histories.proofs.Owner.{Each-append, Each-weaker, Each-of, Each-others, Each-product, gather_first, Is-before, Is-along}
@@ -64,7 +64,7 @@ run_block : {A M S : Type 0} (p : Program A M S) (h : List (ℕ × A)) (s : ℕ 
 run_block p g s m u t n [] k src stays o h = subst (λ j. Source p g (put s u (Free t)) j) (some_inj m k h) src
 run_block p g s m u t n (a ∷ b) k src (goes {t = w} blk _ _ c) o h =
     let f = split_after (p.step a) (hist p.step b m) k h in
-    subst (λ z. Source p ((u, a) ∷ (by u b ++ g)) z k) (put_twice s u (Free w) (Free n)) (act (run_block p g s m u t w b f.0 src blk o.1 f.1) u w n a k (put_same s u (Free w)) (o.0 (λ v. erase (put s u (Free w) v)) u) c f.2)
+    subst (λ z. Source p ((u, a) ∷ (by u b ++ g)) z k) (put_twice s u (Free w) (Free n)) (act (run_block p g s m u t w b f.0 src blk o.1 f.1) u w n a k (put_same s u (Free w)) (o.0 (λ v. erase (put s u (Free w) v)) u).0 c f.2 [] (o.0 (λ v. erase (put s u (Free w) v)) u).1 tt)
 
 -- what is known of a thread of the source at memory k: if it stands at the Enter of a loop, what was done since is apart from its cells
 abbrev pub HeldAt : {A M S : Type 0} (p : Program A M S) (Cells : S → M → A → Type 0) → M → Stand S M → Type 0
@@ -87,9 +87,20 @@ pub record Stands {A M S : Type 0} (p : Program A M S) (Cells : S → M → A �
 pub Indep-sym : {A M : Type 0} (step : A → M → Option M) (a b : A) → Indep step a b → Indep step b a
 Indep-sym step a b i = (Apart-sym step a b i.0, λ m db da. Is-along (after (step a) (step b m)) (after (step b) (step a m)) (i.0 m) (i.1 m da db))
 
-module _ {A M S : Type 0} (p : Program A M S) (Cells : S → M → A → Type 0) (Traps : A → Type 0) (quiet : Quiet p Cells) (loops : OneLoop p Cells Traps) where
+module _ {A M S : Type 0} (p : Program A M S) (Cells : S → M → A → Type 0) (Traps : A → Type 0) (quiet : Quiet p Cells) (answers : AnswersFit p Cells) (loops : OneLoop p Cells Traps) where
   start : Stands p Cells (λ u. Plain (p.first u)) [] [] p.memory
   start = record { s = λ u. Free (p.first u); k = p.memory; h = []; src = begin; shown = nothing; match = λ u. refl; pend = refl; cells = tt; held = λ u. tt }
+
+  -- an answer that fits behind actions of open loops fits before them
+  fits_first : (s : ℕ → Stand S M) (k m : M) (a : A) (q : List (ℕ × A)) → ((u : ℕ) → HeldAt p Cells k (s u)) → Each (λ x. CellsAt Cells (s x.0) x.1) q →
+      (j : M) → hist (own_step p.step) q j ≡ Some m → p.Fits a m → p.Fits a j
+  fits_first s k m a [] held cells j is fits = subst (λ z. p.Fits a z) (sym (some_inj j m is)) fits
+  fits_first s k m a (x ∷ q) held cells j is fits =
+      let f = split_after (p.step x.1) (hist (own_step p.step) q j) m is in
+      fits_first s k f.0 a q held cells.1 j f.1 (at_stand (s x.0) (held x.0) cells.0 f.0 m f.2 fits) where
+        at_stand : (z : Stand S M) → HeldAt p Cells k z → CellsAt Cells z x.1 → (i l : M) → p.step x.1 i ≡ Some l → p.Fits a l → p.Fits a i
+        at_stand (Free w) h c i l e g = absurd c
+        at_stand (At w b) h c i l e g = answers.before w b x.1 h.0 c i l e a g
 
   -- an action by itself comes before all that is pending
   module _ (r : ℕ → Does S) (q vis : List (ℕ × A)) (m : M) (i : Stands p Cells r q vis m) (u : ℕ) (t n : S) (a : A) (k' : M)
@@ -100,11 +111,14 @@ module _ {A M S : Type 0} (p : Program A M S) (Cells : S → M → A → Type 0)
     may_here : p.Allowed (λ v. erase (i.s v)) u a
     may_here = subst (λ z. p.Allowed z u a) (λ d. λ v. i.match v d) may
 
+    fits : p.Fits a i.k
+    fits = fits_first i.s i.k m a q i.held i.cells i.k i.pend (answers.possible a m (k', e))
+
     before_pending : (j : M) × (p.step a i.k ≡ Some j) × (hist (own_step p.step) q j ≡ Some k')
     before_pending =
         let now : hist (own_step p.step) ((u, a) ∷ q) i.k ≡ Some k' = ap (after (p.step a)) i.pend ∙ e in
         let moved : hist (own_step p.step) ((u, a) ∷ q) i.k ≡ after (λ j. hist (own_step p.step) q j) (p.step a i.k) =
-        past (own_step p.step) (u, a) q (Each-weaker (λ x. CellsAt Cells (i.s x.0) x.1) (λ x. Apart (own_step p.step) (u, a) x) (λ x o. (quiet.next i.h i.s i.k i.src x.0 u t n a x.1 o free may_here c).0) q i.cells) i.k
+        past (own_step p.step) (u, a) q (Each-weaker (λ x. CellsAt Cells (i.s x.0) x.1) (λ x. Apart (own_step p.step) (u, a) x) (λ x o. (quiet.next i.h i.s i.k i.src x.0 u t n a x.1 o free may_here c fits).0) q i.cells) i.k
         ∙ hist-append (own_step p.step) q ((u, a) ∷ []) i.k in
         split_after (λ j. hist (own_step p.step) q j) (p.step a i.k) k' (sym moved ∙ now)
 
@@ -115,29 +129,10 @@ module _ {A M S : Type 0} (p : Program A M S) (Cells : S → M → A → Type 0)
       not_free v b g o = let z : i.s v ≡ Free t = ap i.s g ∙ free in rw z at o
 
     still_held : (j : M) → p.step a i.k ≡ Some j → (v : ℕ) → HeldAt p Cells j (i.s v)
-    still_held j f v = at_stand (i.s v) (i.held v) (λ b o. quiet.next i.h i.s i.k i.src v u t n a b o free may_here c) where
+    still_held j f v = at_stand (i.s v) (i.held v) (λ b o. quiet.next i.h i.s i.k i.src v u t n a b o free may_here c fits) where
       at_stand : (z : Stand S M) → HeldAt p Cells i.k z → ((b : A) → CellsAt Cells z b → Indep p.step a b) → HeldAt p Cells j z
       at_stand (Free w) h o = tt
       at_stand (At w g) h o = (h.0, a ∷ h.1, ap (after (p.step a)) h.2 ∙ f, (o, h.3))
-
-    alone : Stands p Cells (put r u (Plain n)) q ((u, a) ∷ vis) k'
-    alone =
-        let b = before_pending in
-        record {
-          s = put i.s u (Free n);
-          k = b.0;
-          h = (u, a) ∷ i.h;
-          shown = outside i.shown (u, a);
-          src = act i.src u t n a b.0 free may_here c b.1;
-          match = put_match r i.s u (Free n) i.match;
-          pend = b.2;
-          cells = elsewhere (Free n);
-          held = λ v. put_cases (HeldAt p Cells b.0) i.s u (Free n) v tt (λ _. still_held b.0 b.1 v);
-        }
-
-    -- the source run goes on by the same action
-    pub by_other : (j : M) × Source p ((u, a) ∷ i.h) (put i.s u (Free n)) j
-    by_other = let b = before_pending in (b.0, act i.src u t n a b.0 free may_here c b.1)
 
     -- a thread that is nowhere near a loop may be put elsewhere
     all_match : (ws : List (ℕ × S)) (v : ℕ) → put_all Plain (put r u (Plain n)) ws v ≡ erase (put_all Free (put i.s u (Free n)) ws v)
@@ -152,35 +147,51 @@ module _ {A M S : Type 0} (p : Program A M S) (Cells : S → M → A → Type 0)
     all_held j o [] v = put_cases (HeldAt p Cells j) i.s u (Free n) v tt (λ _. o v)
     all_held j o (w ∷ ws) v = put_cases (HeldAt p Cells j) (put_all Free (put i.s u (Free n)) ws) w.0 (Free w.1) v tt (λ _. all_held j o ws v)
 
-    spawned : (ws : List (ℕ × S)) → p.Starts r a ws → Each (λ w. r w.0 ≡ Plain p.unborn) ws → Stands p Cells (put_all Plain (put r u (Plain n)) ws) q ((u, a) ∷ vis) k'
-    spawned ws starts un =
+    abbrev pub Starting : List (ℕ × S) → Type 0
+    Starting ws = p.Starts r u a ws × Each (λ w. r w.0 ≡ Plain p.unborn) ws
+
+    unborn_here : (ws : List (ℕ × S)) → Each (λ w. r w.0 ≡ Plain p.unborn) ws → Each (λ w. i.s w.0 ≡ Free p.unborn) ws
+    unborn_here ws un = Each-weaker (λ w. r w.0 ≡ Plain p.unborn) (λ w. i.s w.0 ≡ Free p.unborn) (λ w o. stands_free p.unborn (i.s w.0) (sym o ∙ i.match w.0)) ws un
+
+    starts_here : (ws : List (ℕ × S)) → p.Starts r u a ws → p.Starts (λ v. erase (i.s v)) u a ws
+    starts_here ws starts = subst (λ z. p.Starts z u a ws) (λ d. λ v. i.match v d) starts
+
+    -- the source run goes on by the same action
+    goes_on : (j : M) → p.step a i.k ≡ Some j → (ws : List (ℕ × S)) → Starting ws → Source p ((u, a) ∷ i.h) (put_all Free (put i.s u (Free n)) ws) j
+    goes_on j is ws o = act i.src u t n a j free may_here c is ws (starts_here ws o.0) (unborn_here ws o.1)
+
+    pub by_other : (ws : List (ℕ × S)) → Starting ws → (j : M) × Source p ((u, a) ∷ i.h) (put_all Free (put i.s u (Free n)) ws) j
+    by_other ws o = let b = before_pending in (b.0, goes_on b.0 b.1 ws o)
+
+    alone : (ws : List (ℕ × S)) → Starting ws → Stands p Cells (put_all Plain (put r u (Plain n)) ws) q ((u, a) ∷ vis) k'
+    alone ws o =
         let b = before_pending in
-        let un' : Each (λ w. i.s w.0 ≡ Free p.unborn) ws = Each-weaker (λ w. r w.0 ≡ Plain p.unborn) (λ w. i.s w.0 ≡ Free p.unborn) (λ w o. stands_free p.unborn (i.s w.0) (sym o ∙ i.match w.0)) ws un in
         record {
           s = put_all Free (put i.s u (Free n)) ws;
           k = b.0;
           h = (u, a) ∷ i.h;
           shown = outside i.shown (u, a);
-          src = spawn i.src u t n a b.0 free may_here c b.1 ws (subst (λ z. p.Starts z a ws) (λ d. λ v. i.match v d) starts) un';
+          src = goes_on b.0 b.1 ws o;
           match = all_match ws;
           pend = b.2;
-          cells = Each-weaker (λ x. CellsAt Cells (i.s x.0) x.1) (λ x. CellsAt Cells (put_all Free (put i.s u (Free n)) ws x.0) x.1) (λ x o. all_else ws un' x.0 x.1 o) q i.cells;
+          cells = Each-weaker (λ x. CellsAt Cells (i.s x.0) x.1) (λ x. CellsAt Cells (put_all Free (put i.s u (Free n)) ws x.0) x.1) (λ x d. all_else ws (unborn_here ws o.1) x.0 x.1 d) q i.cells;
           held = all_held b.0 (still_held b.0 b.1) ws;
         }
 
-    entered : p.Opens n → Stands p Cells (put r u (In n)) q ((u, a) ∷ vis) k'
-    entered opens =
+    entered : p.Opens n → p.Starts r u a [] → Stands p Cells (put r u (In n)) q ((u, a) ∷ vis) k'
+    entered opens starts =
         let b = before_pending in
+        let none = starts_here [] starts in
         record {
           s = put i.s u (At n b.0);
           k = b.0;
           h = (u, a) ∷ i.h;
           shown = outside i.shown (u, a);
-          src = enter i.src u t n a b.0 free may_here c opens b.1;
+          src = enter i.src u t n a b.0 free may_here c opens b.1 none;
           match = put_match r i.s u (At n b.0) i.match;
           pend = b.2;
           cells = elsewhere (At n b.0);
-          held = λ v. put_cases (HeldAt p Cells b.0) i.s u (At n b.0) v ((opens, t, a, i.k, c, b.1, (u, a) ∷ i.h, put i.s u (At n b.0), u, enter i.src u t n a b.0 free may_here c opens b.1, put_same i.s u (At n b.0)), [], refl, tt) (λ _. still_held b.0 b.1 v);
+          held = λ v. put_cases (HeldAt p Cells b.0) i.s u (At n b.0) v ((opens, t, a, i.k, c, b.1, (u, a) ∷ i.h, put i.s u (At n b.0), u, enter i.src u t n a b.0 free may_here c opens b.1 none, put_same i.s u (At n b.0)), [], refl, tt) (λ _. still_held b.0 b.1 v);
         }
 
   -- pending actions of different threads, at the thread i and at others
@@ -296,9 +307,8 @@ module _ {A M S : Type 0} (p : Program A M S) (Cells : S → M → A → Type 0)
   -- each team run so far stands for a source run so far
   pub shift : {r : ℕ → Does S} {q vis : List (ℕ × A)} {m : M} → TeamRun p r q vis m → Stands p Cells r q vis m
   shift begins = start
-  shift (acts_alone {r = r} {q = q} {v = vis} {m = m} run u t n a k is may c e) = alone r q vis m (shift run) u t n a k is may c e
-  shift (spawns {r = r} {q = q} {v = vis} {m = m} run u t n a k is may c e ws starts un) = spawned r q vis m (shift run) u t n a k is may c e ws starts un
-  shift (enters {r = r} {q = q} {v = vis} {m = m} run u t n a k is may c o e) = entered r q vis m (shift run) u t n a k is may c e o
+  shift (acts_alone {r = r} {q = q} {v = vis} {m = m} run u t n a k is may c e ws starts un) = alone r q vis m (shift run) u t n a k is may c e ws (starts, un)
+  shift (enters {r = r} {q = q} {v = vis} {m = m} run u t n a k is may c o e starts) = entered r q vis m (shift run) u t n a k is may c e o starts
   shift (member {r = r} {q = q} {v = vis} {m = m} run u t a k is team e) = by_member r q vis m (shift run) u t is a k team e
   shift (leaves {r = r} {q = q} {v = vis} {m = m} run u t n is lv) = by_leaving r q vis m (shift run) u t is n lv
 

@@ -1,5 +1,5 @@
 -- Team runs go back to source runs: the statement.
-use Rattle.std.specs.Prelude.{◌≡◌, ℕ, Some, List, ◌∷◌}
+use Rattle.std.specs.Prelude.{◌≡◌, ℕ, Some, List, [], ◌∷◌}
 use Rattle.xc_commute_histories.specs.History.{of_owner, TrapsLast}
 use Rattle.xc_commute_histories.specs.Runs.{Stand, Does, Plain, In, erase, owner, acts, Program, Source, TeamRun, Shows}
 
@@ -28,4 +28,5 @@ pub record GoesBack {A M S : Type 0} (p : Program A M S) (Traps : A → Type 0) 
   -- and where a thread that is in no loop does
   pub other_traps : (r : ℕ → Does S) (q v : List (ℕ × A)) (m k : M) → TeamRun p r q v m →
       (u : ℕ) (t n : S) (a : A) → r u ≡ Plain t → p.Allowed r u a → p.can t a n → Traps a → p.step a m ≡ Some k →
+      p.Starts r u a [] →
       SomeTrap p Traps

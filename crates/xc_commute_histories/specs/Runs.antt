@@ -42,9 +42,11 @@ pub record Program (A M S : Type 0) : Type 1 where
   pub can : S → A → S → Type 0
   -- when it may: a thread acts only after its Spawn, a Join stands only after its iterations
   pub Allowed : (ℕ → Does S) → ℕ → A → Type 0
-  -- the state of a thread before its Spawn, and which threads an action starts, in which states
+  -- whether its answer is one that this memory can give: a new segment has a number that is not live
+  pub Fits : A → M → Type 0
+  -- the state of a thread before its Spawn, and which threads an action of this thread starts, in which states: most start none
   pub unborn : S
-  pub Starts : (ℕ → Does S) → A → List (ℕ × S) → Type 0
+  pub Starts : (ℕ → Does S) → ℕ → A → List (ℕ × S) → Type 0
   -- the states at the Enter of an automatic loop whose guard holds
   pub Opens : S → Type 0
   -- what the members of that loop may have done so far, the newest first
@@ -64,19 +66,15 @@ pub data Block {A S : Type 0} (can : S → A → S → Type 0) (s : S) : List A 
 pub data Source {A M S : Type 0} (p : Program A M S) : List (ℕ × A) → (ℕ → Stand S M) → M → Type 0 where
   -- nothing is done yet
   begin : Source p [] (λ u. Free (p.first u)) p.memory
-  -- a thread goes on by one action
+  -- a thread goes on by one action, which starts these threads
   act : {h : List (ℕ × A)} {s : ℕ → Stand S M} {m : M} → Source p h s m →
       (u : ℕ) (t n : S) (a : A) (k : M) → s u ≡ Free t → p.Allowed (λ v. erase (s v)) u a → p.can t a n → p.step a m ≡ Some k →
-      Source p ((u, a) ∷ h) (put s u (Free n)) k
-  -- an action starts threads
-  spawn : {h : List (ℕ × A)} {s : ℕ → Stand S M} {m : M} → Source p h s m →
-      (u : ℕ) (t n : S) (a : A) (k : M) → s u ≡ Free t → p.Allowed (λ v. erase (s v)) u a → p.can t a n → p.step a m ≡ Some k →
-      (ws : List (ℕ × S)) → p.Starts (λ v. erase (s v)) a ws → Each (λ w. s w.0 ≡ Free p.unborn) ws →
+      (ws : List (ℕ × S)) → p.Starts (λ v. erase (s v)) u a ws → Each (λ w. s w.0 ≡ Free p.unborn) ws →
       Source p ((u, a) ∷ h) (put_all Free (put s u (Free n)) ws) k
   -- a thread comes to the Enter of a loop, and is held there
   enter : {h : List (ℕ × A)} {s : ℕ → Stand S M} {m : M} → Source p h s m →
       (u : ℕ) (t n : S) (a : A) (k : M) → s u ≡ Free t → p.Allowed (λ v. erase (s v)) u a → p.can t a n → p.Opens n → p.step a m ≡ Some k →
-      Source p ((u, a) ∷ h) (put s u (At n k)) k
+      p.Starts (λ v. erase (s v)) u a [] → Source p ((u, a) ∷ h) (put s u (At n k)) k
   -- a thread that was held goes on
   go_on : {h : List (ℕ × A)} {s : ℕ → Stand S M} {m : M} → Source p h s m →
       (u : ℕ) (t : S) (e : M) → s u ≡ At t e →
@@ -86,19 +84,15 @@ pub data Source {A M S : Type 0} (p : Program A M S) : List (ℕ × A) → (ℕ 
 pub data TeamRun {A M S : Type 0} (p : Program A M S) : (ℕ → Does S) → List (ℕ × A) → List (ℕ × A) → M → Type 0 where
   -- nothing is done yet
   begins : TeamRun p (λ u. Plain (p.first u)) [] [] p.memory
-  -- a thread that is in no loop goes on by one action
+  -- a thread that is in no loop goes on by one action, which starts these threads
   acts_alone : {r : ℕ → Does S} {q v : List (ℕ × A)} {m : M} → TeamRun p r q v m →
       (u : ℕ) (t n : S) (a : A) (k : M) → r u ≡ Plain t → p.Allowed r u a → p.can t a n → p.step a m ≡ Some k →
-      TeamRun p (put r u (Plain n)) q ((u, a) ∷ v) k
-  -- its action starts threads
-  spawns : {r : ℕ → Does S} {q v : List (ℕ × A)} {m : M} → TeamRun p r q v m →
-      (u : ℕ) (t n : S) (a : A) (k : M) → r u ≡ Plain t → p.Allowed r u a → p.can t a n → p.step a m ≡ Some k →
-      (ws : List (ℕ × S)) → p.Starts r a ws → Each (λ w. r w.0 ≡ Plain p.unborn) ws →
+      (ws : List (ℕ × S)) → p.Starts r u a ws → Each (λ w. r w.0 ≡ Plain p.unborn) ws →
       TeamRun p (put_all Plain (put r u (Plain n)) ws) q ((u, a) ∷ v) k
   -- it enters a loop
   enters : {r : ℕ → Does S} {q v : List (ℕ × A)} {m : M} → TeamRun p r q v m →
       (u : ℕ) (t n : S) (a : A) (k : M) → r u ≡ Plain t → p.Allowed r u a → p.can t a n → p.Opens n → p.step a m ≡ Some k →
-      TeamRun p (put r u (In n)) q ((u, a) ∷ v) k
+      p.Starts r u a [] → TeamRun p (put r u (In n)) q ((u, a) ∷ v) k
   -- a member of an open loop acts
   member : {r : ℕ → Does S} {q v : List (ℕ × A)} {m : M} → TeamRun p r q v m →
       (u : ℕ) (t : S) (a : A) (k : M) → r u ≡ In t → p.Team t (a ∷ acts (of_owner owner u q)) → p.step a m ≡ Some k →
@@ -118,19 +112,19 @@ CellsAt Cells (Free s) a = ⊥
 CellsAt Cells (At s m) a = Cells s m a
 
 -- Quiet, a premise on source runs alone. While a thread stands at the Enter of an automatic loop, neither the next action of another thread, whether
--- it is possible now or waits, nor the cells of a loop at whose Enter another thread stands conflict with the loop's cells.
+-- it is possible now or waits, with any answer that fits the memory, nor the cells of a loop at whose Enter another thread stands conflict with the loop's cells.
 -- Without the accesses that wait the theorem is false: Counter has the program that shows it
 pub record Quiet {A M S : Type 0} (p : Program A M S) (Cells : S → M → A → Type 0) : Type 0 where
   pub next : (h : List (ℕ × A)) (s : ℕ → Stand S M) (m : M) → Source p h s m →
       (u v : ℕ) (t n : S) (a c : A) → CellsAt Cells (s u) c → s v ≡ Free t → p.Allowed (λ w. erase (s w)) v a → p.can t a n →
-      Indep p.step a c
+      p.Fits a m → Indep p.step a c
   pub cells : (h : List (ℕ × A)) (s : ℕ → Stand S M) (m : M) → Source p h s m →
       (u v : ℕ) (c d : A) → u ≢ v → CellsAt Cells (s u) c → CellsAt Cells (s v) d →
       Indep p.step c d
 
--- an action for which no other thread is asked, as an access or a tick
+-- an action for which no other thread is asked and that starts none, as an access or a tick
 abbrev pub Always : {A M S : Type 0} → Program A M S → A → Type 0
-Always {A} {M} {S} p a = (r : ℕ → Does S) (u : ℕ) → p.Allowed r u a
+Always {A} {M} {S} p a = (r : ℕ → Does S) (u : ℕ) → p.Allowed r u a × p.Starts r u a []
 
 -- a state at the Enter of such a loop, and a memory in which that Enter is possible: it asks that the globals that the guard names hold the
 -- values it was taken on. A source run has just come there, so what is said of every Enter of source runs, as that the assertions are true,
@@ -138,6 +132,12 @@ Always {A} {M} {S} p a = (r : ℕ → Does S) (u : ℕ) → p.Allowed r u a
 abbrev pub OpensAt : {A M S : Type 0} → Program A M S → S → M → Type 0
 OpensAt {A} {M} {S} p t e = p.Opens t × (w : S) × (a : A) × (m : M) × p.can w a t × (p.step a m ≡ Some e)
     × (h : List (ℕ × A)) × (s : ℕ → Stand S M) × (u : ℕ) × Source p h s e × (s u ≡ At t e)
+
+-- What is to be proved of answers: an action that is possible fits, and one that fits behind an action of a loop's cells fits before it, since
+-- that makes and frees no segment
+pub record AnswersFit {A M S : Type 0} (p : Program A M S) (Cells : S → M → A → Type 0) : Type 0 where
+  pub possible : (a : A) (m : M) → Is (p.step a m) → p.Fits a m
+  pub before : (t : S) (e : M) (c : A) → OpensAt p t e → Cells t e c → (m k : M) → p.step c m ≡ Some k → (a : A) → p.Fits a k → p.Fits a m
 
 -- What is to be proved of each loop by itself, at the memory of its Enter. It is all that differs from one kind of loop to another: that a member's next
 -- action is in the loop's cells, that what was done when the loop is left is what its serial trace does, and that where a member traps the serial trace traps

@@ -1,6 +1,6 @@
 //! The theorem, for any program.
 
-ghost use Rattle.xc_commute_histories.specs.Runs.{Program, Quiet, OneLoop};
+ghost use Rattle.xc_commute_histories.specs.Runs.{Program, Quiet, AnswersFit, OneLoop};
 ghost use Rattle.xc_commute_histories.specs.GoesBack.{GoesBack};
 
 /// A program of several threads, by its relations alone: its actions, memories and the states of its threads, the cells of each
@@ -22,6 +22,7 @@ pub trait Threads {
 /// Every team run of a quiet program goes back to a source run, if each loop by itself does what its serial trace does.
 pub fn team_runs_go_back<P: Threads>()
     requires quiet { Quiet P.program P.cells }
+    requires answers { AnswersFit P.program P.cells }
     requires each_loop { OneLoop P.program P.cells P.traps }
     ensures { GoesBack P.program P.traps }
 {}

@@ -5,4 +5,4 @@ use Rattle.xc_commute.proofs.threads.memory_teams_go_back.Goals as goal
 
 pub returns : goal.returns
 returns g c =
-    goes_back g.P.MemoryThreads.program g.P.MemoryThreads.cells IsTrap (quiet_by_touches g.P.MemoryThreads.program g.P.MemoryThreads.cells c.requires.memory c.requires.quiet) c.requires.each_loop
+    goes_back g.P.MemoryThreads.program g.P.MemoryThreads.cells IsTrap (quiet_by_touches g.P.MemoryThreads.program g.P.MemoryThreads.cells c.requires.memory c.requires.quiet) c.requires.answers c.requires.each_loop
