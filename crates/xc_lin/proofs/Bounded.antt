@@ -1,4 +1,4 @@
-use Rattle.std.proofs.Common.{◌≡◌, ◌∙◌, ◌<◌, ◌+◌, ℕ, zero, suc, length, take, get_or, Option, Some, None, IsSomeAnd, ℤ, pos, ◌+ℤ◌, ◌-ℤ◌, ◌≤ℤ◌, Bool, true, false, not, ◌||◌, cond, List, [], ◌∷◌, ◌++◌, map, arith, sym, ap, refl, subst}
+use Rattle.std.proofs.Common.{◌≡◌, ◌∙◌, ◌<◌, ◌+◌, ℕ, zero, suc, length, take, get_or, ℤ, pos, ◌+ℤ◌, ◌-ℤ◌, ◌≤ℤ◌, Bool, true, false, not, ◌||◌, cond, List, [], ◌∷◌, ◌++◌, map, arith, sym, ap, refl, subst}
 use Rattle.std.proofs.lemmas.Int.{ints}
 use Rattle.xc_lin.specs.declared.affine.Var.{Var}
 use Rattle.xc_lin.specs.declared.affine.Var.TheVariants.{Index}
@@ -61,10 +61,6 @@ not-same xs v w absent stands = elim (same_var v w) as (λ s. same_var v w ≡ s
   | true ↦ λ same. let clash : has_var xs w ≡ false = subst (λ u. has_var xs u ≡ false) (same_var-true v w same) absent in cc
   | false ↦ λ other. refl
 ] refl
-
-some-range : (o : Option Range) (P : Range → Type 0) → IsSomeAnd o P → (range : Range) × (o ≡ Some range)
-some-range None P h = absurd h
-some-range (Some range) P h = (range, refl)
 
 single-beside : (known xs ys : List Term) → ((v : Var) → has_var xs v ≡ true → has_var known v ≡ true) → IsSingle xs → IsSingle ys → IsSingle (xs ++ without known ys)
 single-beside known [] ys all single-x single-y = single-filter _ ys single-y
@@ -165,13 +161,11 @@ absent-before (x ∷ xs) (suc i) d h single =
 
 -- one more variable that is met
 pub summed-more : (over : Region) (a b : List Term) (k : ℤ) (terms : List Term) (i : ℕ) (d : Term) (least most low high : ℤ) → i < length terms → IsSingle terms →
-    HasValuesAt over (get_or terms i d).var →
-    ((range : Range) → range_of over.ranges (get_or terms i d).var ≡ Some range → Spans (tie_of over (get_or terms i d).var) range (coefficient_of a (get_or terms i d).var) (coefficient_of b (get_or terms i d).var) low high) →
+    Spans (tie_of over (get_or terms i d).var) (range_of over.ranges (get_or terms i d).var) (coefficient_of a (get_or terms i d).var) (coefficient_of b (get_or terms i d).var) low high →
     Summed over a b k (take i terms) least most → Summed over a b k (take (i + 1) terms) (least +ℤ low) (most +ℤ high)
-summed-more over a b k terms i d least most low high h single values spans summed =
-    let known : (range : Range) × (range_of over.ranges (get_or terms i d).var ≡ Some range) = some-range (range_of over.ranges (get_or terms i d).var) _ values in
+summed-more over a b k terms i d least most low high h single spans summed =
     subst (λ w. Summed over a b k w (least +ℤ low) (most +ℤ high)) (sym (take_more terms i d h))
-    (summed-push over a b k (take i terms) (get_or terms i d) known.0 least most low high (absent-before terms i d h single) known.1 (spans known.0 known.1) summed)
+    (summed-push over a b k (take i terms) (get_or terms i d) least most low high (absent-before terms i d h single) spans summed)
 
 -- each variable that is met has values
 pub values-met : (a b : Form) (over : Region) (items : List Term) (i : ℕ) (d : Term) → items ≡ met a.terms b.terms (Index over.own) → i < length items → ((var : Var) → IsMet a b over var → HasValuesAt over var) → HasValuesAt over (get_or items i d).var

@@ -5,7 +5,7 @@ use Rattle.xc_lin.specs.declared.affine.Term.{Term}
 use Rattle.xc_lin.specs.declared.region.Range.{Range}
 use Rattle.xc_lin.specs.declared.region.Region.{Region}
 use Rattle.xc_lin.specs.Affine.{same_var, has_var, coefficient_of}
-use Rattle.xc_lin.specs.Region.{range_of, tie_of, Takes, TakesAt}
+use Rattle.xc_lin.specs.Region.{range_of, tie_of, TakesAt}
 use Rattle.xc_lin.specs.InnerRegion.{Spans, apart}
 use Rattle.xc_lin.proofs.Merged.{same_var-refl, differs, matched}
 
@@ -80,29 +80,28 @@ gap-push : (terms a b : List Term) (t : Term) (p q : Var → ℤ) → gap_of (te
 gap-push terms a b t p q = omega (arith, ints, matched-push terms a t p, matched-push terms b t q)
 
 -- one more variable, whose values are chosen for themselves
-reach-push : (over : Region) (a b : List Term) (k : ℤ) (terms : List Term) (t : Term) (range : Range) (end more : ℤ) → has_var terms t.var ≡ false → range_of over.ranges t.var ≡ Some range →
+reach-push : (over : Region) (a b : List Term) (k : ℤ) (terms : List Term) (t : Term) (end more : ℤ) → has_var terms t.var ≡ false →
     ((p : Var → ℤ) × ((q : Var → ℤ) × (AllTake over terms p q × ((k +ℤ gap_of terms a b p q) ≡ end)))) →
-    ((x : ℤ) × ((y : ℤ) × (Takes (tie_of over t.var) range x y × (apart (coefficient_of a t.var) (coefficient_of b t.var) x y ≡ more)))) →
+    ((x : ℤ) × ((y : ℤ) × (TakesAt over t.var x y × (apart (coefficient_of a t.var) (coefficient_of b t.var) x y ≡ more)))) →
     (p : Var → ℤ) × ((q : Var → ℤ) × (AllTake over (terms ++ t ∷ []) p q × ((k +ℤ gap_of (terms ++ t ∷ []) a b p q) ≡ (end +ℤ more))))
-reach-push over a b k terms t range end more absent known (p, (q, (all, e))) (x, (y, (takes, f))) =
+reach-push over a b k terms t end more absent (p, (q, (all, e))) (x, (y, (takes, f))) =
     let v = t.var in
     let p' : Var → ℤ = assign t.var x p in
     let q' : Var → ℤ = assign t.var y q in
-    let last : TakesAt over t.var (p' t.var) (q' t.var) = rw (assign-here t.var x p, assign-here t.var y q, known) takes in
+    let last : TakesAt over t.var (p' t.var) (q' t.var) = rw (assign-here t.var x p, assign-here t.var y q) takes in
     let same : gap_of terms a b p' q' ≡ gap_of terms a b p q = rw (matched-assign terms a t.var x p absent, matched-assign terms b t.var y q absent) refl in
     let own : apart (coefficient_of a t.var) (coefficient_of b t.var) (p' t.var) (q' t.var) ≡ more = rw (assign-here t.var x p, assign-here t.var y q) f in
     (p', (q', (take-push over terms t p' q' (take-assign over terms t.var x y p q absent all) last, omega (arith, ints, gap-push terms a b t p' q', same, own, e))))
 
-pub summed-push : (over : Region) (a b : List Term) (k : ℤ) (terms : List Term) (t : Term) (range : Range) (least most low high : ℤ) → has_var terms t.var ≡ false → range_of over.ranges t.var ≡ Some range →
-    Spans (tie_of over t.var) range (coefficient_of a t.var) (coefficient_of b t.var) low high → Summed over a b k terms least most → Summed over a b k (terms ++ t ∷ []) (least +ℤ low) (most +ℤ high)
-summed-push over a b k terms t range least most low high absent known spans summed = record {
+pub summed-push : (over : Region) (a b : List Term) (k : ℤ) (terms : List Term) (t : Term) (least most low high : ℤ) → has_var terms t.var ≡ false →
+    Spans (tie_of over t.var) (range_of over.ranges t.var) (coefficient_of a t.var) (coefficient_of b t.var) low high → Summed over a b k terms least most → Summed over a b k (terms ++ t ∷ []) (least +ℤ low) (most +ℤ high)
+summed-push over a b k terms t least most low high absent spans summed = record {
   bounded = λ p q all.
       let parts = take-front over terms t p q all in
-      let own : Takes (tie_of over t.var) range (p t.var) (q t.var) = subst (λ r. IsSomeAnd r (λ range. Takes (tie_of over t.var) range (p t.var) (q t.var))) known parts.1 in
       let one : (least ≤ℤ (k +ℤ gap_of terms a b p q)) × ((k +ℤ gap_of terms a b p q) ≤ℤ most) = summed.bounded p q parts.0 in
-      let two : (low ≤ℤ apart (coefficient_of a t.var) (coefficient_of b t.var) (p t.var) (q t.var)) × (apart (coefficient_of a t.var) (coefficient_of b t.var) (p t.var) (q t.var) ≤ℤ high) = spans.bounded (p t.var) (q t.var) own in
+      let two : (low ≤ℤ apart (coefficient_of a t.var) (coefficient_of b t.var) (p t.var) (q t.var)) × (apart (coefficient_of a t.var) (coefficient_of b t.var) (p t.var) (q t.var) ≤ℤ high) = spans.bounded (p t.var) (q t.var) parts.1 in
       let e = gap-push terms a b t p q in
       (omega (arith, ints, one.0, two.0, e), omega (arith, ints, one.1, two.1, e));
-  least_reached = reach-push over a b k terms t range least low absent known summed.least_reached spans.least_reached;
-  most_reached = reach-push over a b k terms t range most high absent known summed.most_reached spans.most_reached;
+  least_reached = reach-push over a b k terms t least low absent summed.least_reached spans.least_reached;
+  most_reached = reach-push over a b k terms t most high absent summed.most_reached spans.most_reached;
 }

@@ -1,4 +1,4 @@
-use Rattle.std.specs.Prelude.{◌≡◌, ◌≤◌, ℤ, ◌-ℤ◌, ◌≤ℤ◌, ◌<ℤ◌, ◌==◌, ◌||◌, true, List, [], ◌∷◌, Option, Some, None, if◌then◌else◌, IsSomeAnd, ⊤}
+use Rattle.std.specs.Prelude.{◌≡◌, ◌≤◌, ℤ, ◌-ℤ◌, ◌≤ℤ◌, ◌<ℤ◌, ◌==◌, ◌||◌, true, List, [], ◌∷◌, if◌then◌else◌, ⊤, pos, neg_ℤ, ◌^◌}
 use Rattle.xc_lin.specs.declared.affine.Var.{Var}
 use Rattle.xc_lin.specs.declared.affine.Var.TheVariants.{Index, Symbol, GlobalSymbol}
 use Rattle.xc_lin.specs.declared.region.Range.{Range}
@@ -7,10 +7,14 @@ use Rattle.xc_lin.specs.declared.region.Tie.{Tie}
 use Rattle.xc_lin.specs.declared.region.Tie.TheVariants.{Apart, Shared, Below, Above}
 use Rattle.xc_lin.specs.Affine.{Form, same_var, has_var, value_of}
 
--- the range of a variable: the first that is given for it
-abbrev pub range_of : List (Var × Range) → Var → Option Range
-range_of [] var = None
-range_of (known ∷ ranges) var = if same_var known.0 var then Some known.1 else range_of ranges var
+-- the numbers from -2^31 to 2^31
+abbrev pub anywhere : Range
+anywhere = record { lo = neg_ℤ (pos (2 ^ 31)); hi = pos (2 ^ 31) }
+
+-- the range of a variable: the first that is given for it, and any number from -2^31 to 2^31 where none is
+abbrev pub range_of : List (Var × Range) → Var → Range
+range_of [] var = anywhere
+range_of (known ∷ ranges) var = if same_var known.0 var then known.1 else range_of ranges var
 
 -- how the values of a variable at the two places are bound: those of the own index lie in the named
 -- direction, a symbol has one value, and other indices are apart
@@ -47,11 +51,11 @@ IsMet a b over var = (has_var a.terms var || has_var b.terms var || same_var (In
 
 -- a variable has values at the two places of the region
 abbrev pub HasValuesAt : Region → Var → Type 0
-HasValuesAt over var = IsSomeAnd (range_of over.ranges var) (λ range. HasValues (tie_of over var) range)
+HasValuesAt over var = HasValues (tie_of over var) (range_of over.ranges var)
 
 -- a variable can have these values at the two places of the region
 abbrev pub TakesAt : Region → Var → ℤ → ℤ → Type 0
-TakesAt over var x y = IsSomeAnd (range_of over.ranges var) (λ range. Takes (tie_of over var) range x y)
+TakesAt over var x y = Takes (tie_of over var) (range_of over.ranges var) x y
 
 -- values of all variables at the two places: each of a variable that is met lies in its range, and is
 -- bound to the other as the region says

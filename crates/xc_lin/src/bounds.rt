@@ -1,5 +1,5 @@
 //! The least and the greatest difference of two affine forms.
-ghost use Rattle.std.specs.Prelude.{◌≡◌, ◌≤◌, ◌+◌, ◌*◌, ◌^◌, ◌+ℤ◌, ◌-ℤ◌, ◌*ℤ◌, ◌≤ℤ◌, ◌<ℤ◌, ℤ, pos, neg_ℤ, unsigned_abs, Some, IsTrue, ◌↔◌};
+ghost use Rattle.std.specs.Prelude.{◌≡◌, ◌≤◌, ◌+◌, ◌*◌, ◌^◌, ◌+ℤ◌, ◌-ℤ◌, ◌*ℤ◌, ◌≤ℤ◌, ◌<ℤ◌, ℤ, pos, neg_ℤ, unsigned_abs, IsTrue, ◌↔◌};
 ghost use Rattle.std.specs.Int.{int_min, int_max};
 ghost use Rattle.xc_lin.specs.Affine.{coefficient_of};
 ghost use Rattle.xc_lin.specs.Region.{range_of, tie_of, HasValues, HasValuesAt, HasPoints, Bounds};
@@ -227,17 +227,14 @@ impl Slopes {
 /// The least and the greatest of what a variable adds to the difference of two forms.
 fn part(a: &Affine, b: &Affine, over: &Region, var: Var) -> Extent
     requires { HasValuesAt over.now var }
-    ensures spans { (range : Range) → range_of over.now.ranges var ≡ Some range → Spans (tie_of over.now var) range (coefficient_of a.now.terms var) (coefficient_of b.now.terms var) result.least result.most }
+    ensures spans { Spans (tie_of over.now var) (range_of over.now.ranges var) (coefficient_of a.now.terms var) (coefficient_of b.now.terms var) result.least result.most }
     ensures size { AreWithin (2 ^ 86) result }
 {
     let slopes = Slopes {
         first: a.coefficient(var),
         second: b.coefficient(var),
     };
-    match over.range(var) {
-        Some(range) => slopes.extent(over.tie(var), range),
-        None => unreachable!(),
-    }
+    slopes.extent(over.tie(var), over.range(var))
 }
 
 /// The difference of the constants of two forms.

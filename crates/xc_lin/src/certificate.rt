@@ -90,8 +90,9 @@ pub enum Class {
     Reduce(Op),
 }
 
-/// The references `a` and `b` with a reason for each direction: `low` where the iteration of `a` is
-/// the earlier one.
+/// The references `a` and `b` with a reason for each direction: `low` where the index at `a` is below
+/// that at `b`, `high` where it is above. In a loop that counts down, `high` is where the iteration of `a`
+/// is the earlier one.
 #[derive(Clone, Copy)]
 pub struct PairCert {
     pub a: u32,

@@ -15,6 +15,12 @@ pub struct Range {
 impl Range {
     ghost use Rattle.xc_lin.specs.InnerRegion.{shorter};
 
+    /// The numbers from -2^31 to 2^31: the range of a variable of which nothing else is known.
+    pub const ANYWHERE: Range = Range {
+        lo: -(1 << 31),
+        hi: 1 << 31,
+    };
+
     /// The range without its last value.
     pub(crate) fn shorter(self) -> Range
         requires { self.lo <ℤ self.hi }
@@ -27,8 +33,9 @@ impl Range {
     }
 }
 
-/// Where the variables of two references range, and in which direction: `low` where the iteration of
-/// the first is the earlier one. `own` is the loop whose iterations are meant.
+/// Where the variables of two references range, and in which direction: `low` where the own index at the
+/// first is below that at the second, whichever iteration is the earlier one. `own` is the loop whose
+/// iterations are meant.
 #[derive(Drop)]
 pub struct Region {
     pub ranges: Items<(Var, Range)>,
@@ -52,16 +59,16 @@ pub enum Tie {
 impl Region {
     ghost use Rattle.xc_lin.specs.Region.{range_of, tie_of, HasValuesAt};
 
-    /// The range of a variable.
-    pub fn range(&self, var: Var) -> Option<Range>
+    /// The range of a variable: [`Range::ANYWHERE`] where none is given for it.
+    pub fn range(&self, var: Var) -> Range
         ensures { result ≡ range_of self.now.ranges var }
     {
         for known in self.ranges.as_slice() {
             if known.0 == var {
-                return Some(known.1);
+                return known.1;
             }
         }
-        None
+        Range::ANYWHERE
     }
 
     /// How the values of a variable are bound.
@@ -80,10 +87,10 @@ impl Region {
     pub fn has_values(&self, var: Var) -> bool
         ensures { IsTrue result ↔ HasValuesAt self.now var }
     {
-        match (self.range(var), self.tie(var)) {
-            (Some(range), Tie::Apart | Tie::Shared) => range.lo <= range.hi,
-            (Some(range), Tie::Below | Tie::Above) => range.lo < range.hi,
-            (None, _) => false,
+        let range = self.range(var);
+        match self.tie(var) {
+            Tie::Apart | Tie::Shared => range.lo <= range.hi,
+            Tie::Below | Tie::Above => range.lo < range.hi,
         }
     }
 }

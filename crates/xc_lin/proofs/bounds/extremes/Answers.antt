@@ -31,7 +31,6 @@ loop-term-preserved c =
       summed = rw c.plus-extent.ensures
           (summed-more c.args.over.now c.args.a.now.terms c.args.b.now.terms (c.args.a.now.constant -ℤ c.args.b.now.constant) c.as_slice-term-items.result.now c.loop-term.term-index none
           c.loop-term.extent.least c.loop-term.extent.most c.part.result.least c.part.result.most c.loop-term-test.true single
-          (values-met c.args.a.now c.args.b.now c.args.over.now c.as_slice-term-items.result.now c.loop-term.term-index none items c.loop-term-test.true c.requires)
           c.part.ensures.spans c.loop-term.invariant.summed);
       size = rw c.plus-extent.ensures
           (omega (arith, ints, c.loop-term.invariant.size.0, c.part.ensures.size.0), omega (arith, ints, c.loop-term.invariant.size.1, c.part.ensures.size.1));
