@@ -1,0 +1,2 @@
+mod Agrees
+mod Traces

@@ -1,0 +1,3 @@
+pub mod Steadiness
+pub mod Goes
+pub mod Closed

@@ -1,0 +1,4 @@
+pub mod Events
+pub mod Meaning
+pub mod Traces
+pub mod Steady
