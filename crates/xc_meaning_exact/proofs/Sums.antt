@@ -1,14 +1,12 @@
 -- The values of an index are exact.
-use Rattle.std.proofs.Common.{◌≡◌, ℕ, zero, suc, ◌+◌, ◌-◌, ◌*◌, ◌/◌, ◌%◌, ◌^◌, ◌<◌, ◌≤◌, ℤ, pos, negsuc, ◌+ℤ◌, ◌-ℤ◌, ◌≤ℤ◌, ◌<ℤ◌, Bool, true, false, cond, ◌⊎◌, inl, inr, ⊎_elim, ◌↔◌, refl, sym, ap, ◌∙◌, subst, arith}
+use Rattle.std.proofs.Common.{◌≡◌, ℕ, suc, ◌+◌, ◌-◌, ◌*◌, ◌/◌, ◌%◌, ◌^◌, ◌<◌, ◌≤◌, ℤ, pos, ◌+ℤ◌, ◌-ℤ◌, ◌≤ℤ◌, ◌<ℤ◌, Bool, true, false, cond, ◌⊎◌, inl, inr, ⊎_elim, ◌↔◌, refl, ap, ◌∙◌, arith}
 use Rattle.std.specs.Prelude.{int_lt, int_le, IsTrue}
 use Rattle.std.proofs.lemmas.Int.{ints}
 use Rattle.std.proofs.Math.Nat.{div-lt_iff_lt-mul}
-use Rattle.xc_tree.specs.declared.operator.BinOp.{BinOp}
 use Rattle.xc_tree.specs.declared.operator.BinOp.TheVariants as op
 use Rattle.xc_word.specs.Numbers.{signed}
-use Rattle.xc_tree_words.specs.Words.{is_below, difference}
-use Rattle.xc_meaning_terms.specs.Ranges.{extent, index_after}
-use Rattle.xc_meaning_exact.specs.Exact.{reached, compares, goes_towards, IsInt, IndexValuesAreExact, IndexAfterIsExact}
+use Rattle.xc_tree_words.specs.Words.{difference}
+use Rattle.xc_meaning_exact.specs.Exact.{IsInt, IndexValuesAreExact, IndexAfterIsExact}
 use Rattle.xc_meaning_exact.proofs.Numbers.{sign_of, signed_is, wrapped, difference_exact}
 
 -- ---- steps

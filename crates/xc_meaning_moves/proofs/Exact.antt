@@ -1,6 +1,5 @@
 -- The machine is exact, since what has halted stays so.
 use Rattle.std.proofs.Common.{◌≡◌, ℕ, zero, suc, ◌+◌, ◌-◌, ◌≤◌, List, refl, sym, ap, ◌∙◌, subst, arith, ◌⊎◌, inl, inr, ⊎_elim}
-use Rattle.xc_meaning_world.specs.World.{Reply}
 use Rattle.xc_meaning_terms.specs.Terms.{Program}
 use Rattle.xc_meaning_threads.specs.Events.{Event, Main}
 use Rattle.xc_meaning_threads.specs.Meaning.{Trapped, NoReply, NoFuel, Outcome, Gives, Halts, Exit, run_of}

@@ -7,10 +7,10 @@ use Rattle.xc_meaning_terms.specs.Terms.{Term, Number, Local, Set, UpdateLocal, 
 use Rattle.xc_meaning_terms.specs.Pointers.{member_of}
 use Rattle.xc_meaning_terms.specs.Ranges.{is_near}
 use Rattle.xc_meaning_threads.specs.Events.{Event, CallBegins, CallEnds, Enter, Leave, Spawn}
-use Rattle.xc_meaning_threads.specs.Meaning.{Env, Setting, setting, Point, point, Halt, Trapped, NoReply, NoFuel, Outcome, Gives, Halts, Exit, Ends, Breaks, Continues, Returns, and_then, either, if_zero, marked, ticked, set, ask, stop, given, touch, value_of, values_of, as_truth, on_end, then_do, answer_of, freed, leaving, purged, filled, with_object, with_formals, value_or_one, after_turn, turned, looped, serially, values_in, limit_of, forked, compared, by_mark, chosen, out_of_switch, captured, formals_of, followed, outcome_of, in_order, run_items, from_case, from_default, nothing_set, run_from, entered, called, ended, main_of}
-use Rattle.xc_meaning_moves.specs.Machine.{Finish, Sets, UpdatesLocal, Elements, Members, Reads, Writes, Adds, Purges, Updates, Unaries, Binaries, Truths, Invokes, Prints, After, Nothing, Turns, Frame, Operands, AndThen, OrThen, Chooses, Follows, UpdatesAt, Discards, Declares, Fills, IfThen, IfElses, Selects, Answers, LoopTests, LoopSteps, Limits, Places, Captures, Sequence, ItemsAfter, Freeing, LoopBody, Leaving, InSwitch, CallOf, Control, Evaluate, Gave, Invoke, Execute, Runs, RunsItems, Loops, Ended, Config, config, Next, Goes, Stops, goes, on_given, past, choose, finished, binds, enters, finishes, operands, one_operand, two_operands, evaluates, fills, declares, turns, steps_on, tests, begins, captures, case_in, default_in, selected, runs_items, executes, begins_with, runs, gave, after_body, ends, does, moves, main_at, start}
+use Rattle.xc_meaning_threads.specs.Meaning.{Setting, setting, Point, point, Halt, Trapped, NoReply, NoFuel, Outcome, Gives, Halts, Exit, Ends, Breaks, Continues, Returns, and_then, if_zero, marked, ticked, set, ask, stop, given, touch, value_of, values_of, as_truth, on_end, then_do, answer_of, freed, leaving, purged, filled, with_object, with_formals, value_or_one, after_turn, turned, looped, serially, values_in, limit_of, forked, compared, by_mark, chosen, out_of_switch, captured, formals_of, followed, outcome_of, in_order, run_items, from_case, from_default, nothing_set, run_from, entered, called, ended, main_of}
+use Rattle.xc_meaning_moves.specs.Machine.{Finish, Sets, UpdatesLocal, Elements, Members, Reads, Writes, Adds, Purges, Updates, Unaries, Binaries, Truths, Invokes, Prints, After, Nothing, Turns, Frame, Operands, AndThen, OrThen, Chooses, Follows, UpdatesAt, Discards, Declares, Fills, IfThen, IfElses, Selects, Answers, LoopTests, LoopSteps, Limits, Places, Captures, Sequence, ItemsAfter, Freeing, LoopBody, Leaving, InSwitch, CallOf, Evaluate, Gave, Invoke, Execute, Runs, RunsItems, Loops, Ended, Config, config, Next, Goes, goes, on_given, past, choose, finished, binds, enters, finishes, operands, one_operand, two_operands, evaluates, fills, declares, turns, steps_on, tests, begins, captures, case_in, default_in, selected, runs_items, executes, begins_with, runs, gave, after_body, moves, main_at, start}
 use Rattle.xc_meaning_moves.specs.Laws.{Interprets}
-use Rattle.xc_meaning_moves.proofs.Steps.{stays, comes_on, Does, HaltsSo, does_on, does_less, does_more, does_once, does_value, does_request, does_request_in, does_then, does_then_in, does_either}
+use Rattle.xc_meaning_moves.proofs.Steps.{stays, Does, HaltsSo, does_less, does_more, does_once, does_value, does_request, does_request_in, does_then, does_then_in, does_either}
 
 -- values of a list go on to what follows them
 then_more : (o : Outcome (List ℕ)) (v : ℕ) {Y : Type 0} (go : List ℕ → Point → Outcome Y) → and_then (and_then o (λ vs p. Gives (v ∷ vs) p)) go ≡ and_then o (λ vs p. go (v ∷ vs) p)

@@ -1,3 +1,4 @@
 pub mod Steps
 pub mod Interprets
 pub mod Exact
+pub mod Grows

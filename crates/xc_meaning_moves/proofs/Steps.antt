@@ -3,7 +3,7 @@ use Rattle.std.proofs.Common.{◌≡◌, ℕ, suc, ◌+◌, ◌-◌, ◌≤◌, 
 use Rattle.xc_meaning_terms.specs.Terms.{Program}
 use Rattle.xc_meaning_threads.specs.Events.{Event}
 use Rattle.xc_meaning_threads.specs.Meaning.{Point, Halt, Trapped, NoReply, NoFuel, Outcome, Gives, Halts, Exit, and_then, either}
-use Rattle.xc_meaning_moves.specs.Machine.{Frame, Control, Gave, Ended, Config, config, Next, Goes, Stops, goes, on_given, valued, choose, does, on_next, moves}
+use Rattle.xc_meaning_moves.specs.Machine.{Frame, Control, Gave, Config, config, Next, Goes, Stops, goes, on_given, valued, choose, does, on_next, moves}
 
 module _ (prog : Program) where
   -- what comes of a move and so many more

@@ -10,7 +10,7 @@ use Rattle.xc_meaning_terms.specs.Terms.{Term, Number, Local, Set, UpdateLocal, 
 use Rattle.xc_meaning_terms.specs.Pointers.{pointer_to, member_of, element, operate}
 use Rattle.xc_meaning_terms.specs.Ranges.{is_near}
 use Rattle.xc_meaning_threads.specs.Events.{CallBegins, CallEnds, Enter, Leave, Spawn}
-use Rattle.xc_meaning_threads.specs.Meaning.{Env, Point, point, NoFuel, Outcome, Gives, Halts, Exit, Ends, Breaks, Continues, Returns, and_then, either, if_zero, marked, ticked, set, ask, stop, given, touch, write, format_at, show, as_truth, update_local, answer_of, freed, purged, values_in, limit_of, forked, compared, out_of_switch, formals_of, nothing_set}
+use Rattle.xc_meaning_threads.specs.Meaning.{Env, Point, point, NoFuel, Outcome, Gives, Halts, Exit, Ends, Breaks, Continues, Returns, and_then, marked, ticked, set, ask, stop, given, touch, write, format_at, show, as_truth, update_local, answer_of, freed, purged, values_in, limit_of, forked, compared, out_of_switch, formals_of, nothing_set}
 
 -- ---- states
 

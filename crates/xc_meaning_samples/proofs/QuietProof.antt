@@ -1,15 +1,14 @@
 -- The program of two threads is Quiet: only `main` enters a loop, the other thread touches its own object and its place alone, and a
 -- new segment is no global.
-use Rattle.std.proofs.Common.{◌≡◌, ◌≢◌, ◌⊎◌, ℕ, zero, suc, ◌+◌, ◌*◌, ◌^◌, ◌<◌, ◌≤◌, ◌==◌, List, [], ◌∷◌, ◌++◌, length, Bool, true, false, inl, inr, ⊎_elim, refl, sym, ap, ◌∙◌, subst, arith, append-nil, append_assoc, length-append}
+use Rattle.std.proofs.Common.{◌≡◌, ◌≢◌, ◌⊎◌, ℕ, zero, suc, ◌+◌, ◌*◌, ◌^◌, ◌<◌, ◌≤◌, ◌==◌, List, [], ◌∷◌, ◌++◌, length, Bool, true, false, inl, inr, refl, sym, ap, ◌∙◌, subst, arith, append-nil, append_assoc, length-append}
 use Rattle.std.specs.Prelude.{Option, Some, None, slice_get, if◌then◌else◌}
-use Rattle.std.proofs.Math.Nat.{mul-div_cancel}
 use Rattle.xc_meaning_world.specs.World.{World, Segs, Touch, Reach, New, Free, Request, On, Print as Shows, Begin, Stop, Tick, Reply, Got, Dead, serve, put, world_of}
 use Rattle.xc_meaning_world.specs.Runs.{part_of, NewInTouch, IsVacant, Applies}
 use Rattle.xc_word.specs.declared.memory.Place.{Place}
 use Rattle.xc_meaning_world.proofs.Puts.{eqb_same}
 use Rattle.xc_meaning_terms.specs.Terms.{Term, Range, Command}
 use Rattle.xc_meaning_terms.specs.Pointers.{segment_of, offset_of}
-use Rattle.xc_meaning_threads.specs.Events.{Label, Of, CallBegins, CallEnds, Enter, Leave, Spawn, Fork, Join, Event, event, mark, replies_of, seen_of, by_thread, seen, number_in, Task, Main, Body, Turn, started_by}
+use Rattle.xc_meaning_threads.specs.Events.{Label, Of, CallBegins, CallEnds, Enter, Leave, Spawn, Fork, Join, Event, event, mark, replies_of, seen_of, by_thread, seen, number_in, Task, Main, Body, started_by}
 use Rattle.xc_meaning_threads.specs.Meaning.{point, Outcome, Gives, Exit, Ends, and_then, either, ask, stop, nothing_set, answering, trace_of, run_of}
 use Rattle.xc_meaning_threads.specs.Traces.{IsTrace, Asks}
 use Rattle.xc_meaning_source.specs.Source.{SourceRun, InTurn, started_in, tasks_in}

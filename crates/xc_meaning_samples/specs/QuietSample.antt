@@ -1,11 +1,10 @@
 -- A program of two threads that is Quiet: `main` stands in an open loop that writes a global, while the other thread declares an array,
 -- whose segment may get any vacant number.
-use Rattle.std.specs.Prelude.{ℕ, true, false, List, [], ◌∷◌, Some, None}
+use Rattle.std.specs.Prelude.{true, false, [], ◌∷◌, Some, None}
 use Rattle.xc_word.specs.declared.memory.Kind.TheVariants as kind
 use Rattle.xc_word.specs.Table.{full_with, empty_with}
 use Rattle.xc_tree.specs.declared.operator.BinOp.TheVariants as op
-use Rattle.xc_meaning_terms.specs.Terms.{Term, Number, Local, Set, Global, Write, Range, Normal, Command, Declare, Object, Eval, Loop, Future, Program}
-use Rattle.xc_meaning_threads.specs.Events.{Task, Body}
+use Rattle.xc_meaning_terms.specs.Terms.{Term, Number, Local, Set, Global, Write, Normal, Command, Declare, Object, Eval, Loop, Future, Program}
 use Rattle.xc_meaning_source.specs.Premises.{Quiet}
 use Rattle.xc_meaning_samples.specs.Samples.{on_ints, add_to, one_by_one, block, function, range}
 

@@ -12,7 +12,7 @@ use Rattle.xc_meaning_terms.specs.declared.operation.Operation.TheVariants.{OnWo
 use Rattle.xc_meaning_threads.specs.Events.{Of, CallBegins, CallEnds, Enter, Leave, Spawn, Fork, Join, Event, event, mark, Task, Main, Body, Turn, by_thread}
 use Rattle.xc_meaning_threads.specs.Meaning.{trace_of, run_of}
 use Rattle.xc_meaning_source.specs.Source.{SourceRun, HasEnded}
-use Rattle.xc_meaning_source.specs.Cells.{Visit, Use, cells_of_turn, cells_of_loop, cells_taken, uses_of}
+use Rattle.xc_meaning_source.specs.Cells.{Visit, cells_of_turn, cells_of_loop, cells_taken}
 use Rattle.xc_meaning_source.specs.Work.{world_after, work_in, most_words, most_calls}
 use Rattle.xc_meaning_source.specs.Work
 

@@ -1,5 +1,5 @@
 -- Each form goes on in the same way with more replies, by induction on terms and commands.
-use Rattle.std.proofs.Common.{◌≡◌, ℕ, zero, suc, ◌==◌, List, [], ◌∷◌, Bool, true, false, refl}
+use Rattle.std.proofs.Common.{ℕ, zero, suc, ◌==◌, List, [], ◌∷◌, Bool, true, false, refl}
 use Rattle.std.specs.Prelude.{◌&&◌, cond, Option, Some, None}
 use Rattle.xc_word.specs.declared.memory.Kind.{Kind}
 use Rattle.xc_word.specs.declared.memory.Kind.TheVariants as kind
@@ -18,13 +18,13 @@ use Rattle.xc_meaning_threads.proofs.Steadiness.{after, Steady, then_steady, giv
 pub touch_steady : (k : Kind) (at v : ℕ) → Steady (touch k at v)
 touch_steady k at v = ask_steady (On (Reach (access_at k at v))) (λ a. refl)
 
-write_steady : (k : Kind) (at v u : ℕ) → Steady (write k at v u)
+pub write_steady : (k : Kind) (at v u : ℕ) → Steady (write k at v u)
 write_steady k at v u = then_steady (touch k at v) (λ _ p. Gives u p) (touch_steady k at v) (λ _. gives_steady u)
 
-show_steady : (format vs : List ℕ) → Steady (show format vs)
+pub show_steady : (format vs : List ℕ) → Steady (show format vs)
 show_steady format vs = then_steady (ask (Shows (text_of format vs))) (λ _ p. Gives 0 p) (ask_steady (Shows (text_of format vs)) (λ a. refl)) (λ _. gives_steady 0)
 
-update_steady : (post : Bool) (x old new : ℕ) → Steady (update_local post x old new)
+pub update_steady : (post : Bool) (x old new : ℕ) → Steady (update_local post x old new)
 update_steady post x old new = set_steady (Gives (cond post old new)) x new (gives_steady (cond post old new))
 
 truth_steady : (x : ℕ) → Steady (as_truth x)

@@ -4,7 +4,7 @@ use Rattle.std.specs.Prelude.{◌≡◌, ◌⊎◌, ℕ, List, [], ◌∷◌, �
 use Rattle.xc_meaning_world.specs.World.{Reply}
 use Rattle.xc_meaning_terms.specs.Terms.{Program}
 use Rattle.xc_meaning_threads.specs.Events.{Event, label_reply, replies_of, Task}
-use Rattle.xc_meaning_threads.specs.Meaning.{Point, Halt, Trapped, NoReply, NoFuel, Outcome, Gives, Halts, Exit, Ends, trace_of, run_of}
+use Rattle.xc_meaning_threads.specs.Meaning.{Point, Halt, Trapped, NoReply, NoFuel, Outcome, Gives, Halts, Ends, trace_of, run_of}
 use Rattle.xc_meaning_threads.specs.Traces.{IsTrace, IsWhole}
 
 -- more replies behind those that are left

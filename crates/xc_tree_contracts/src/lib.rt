@@ -9,5 +9,5 @@ mod words;
 
 pub use labels::two_cases;
 pub use lines::{divisor, extremes, has_points, sum};
-pub use loops::{concurrent, effects, normal, pures};
+pub use loops::{concurrent, effects, normal, pures, unstable};
 pub use words::{binary, unary, works_on_uint};

@@ -1,3 +1,4 @@
+use Rattle.xc_meaning_samples.proofs.Answered.{serial_samples}
 use Rattle.xc_meaning_samples.proofs.Computed.{samples, more_samples}
 use Rattle.xc_meaning_samples.proofs.QuietProof.{two_threads_are_quiet}
 use Rattle.xc_meaning_samples.proofs.samples.Goals as goal
@@ -10,3 +11,6 @@ returns-clause-more c = more_samples
 
 pub returns-clause-quiet : goal.returns-clause-quiet
 returns-clause-quiet c = two_threads_are_quiet
+
+pub returns-clause-answers : goal.returns-clause-answers
+returns-clause-answers c = serial_samples
