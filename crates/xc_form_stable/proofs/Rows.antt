@@ -83,22 +83,6 @@ by_index_array : first_in (counts 0 0 (local 2) 1 (writes (element 0 (reads (ele
 unfolding first_unstable normal_form all_inside has_threads is_kept_at is_variable clause_of
 by_index_array = search (rules, opened)
 
--- a[b[i]] = i, with a write through a pointer
-with_pointer : first_in (counts 0 0 (local 2) 1 (does (Block (writes (element 0 (reads (element 1 (local 0)))) (local 0)
-    ∷ writes (at (Ptr Int) (Index (at (Ptr Int) (Variable 3)) (local 0) 1 None)) (number 1) ∷ [])))) ≡ Some breaks
-unfolding first_unstable normal_form all_inside has_threads is_kept_at is_variable clause_of
-with_pointer = search (rules, opened)
-
--- for (j = 0; j < n; j += 2) a[j] = i;
-inner_steps_by_two : first_in (counts 0 0 (number 9) 1 (counts 1 1 (local 2) 2 (writes (element 0 (local 1)) (local 0)))) ≡ None
-unfolding first_unstable normal_form all_inside has_threads is_kept_at is_variable clause_of
-inner_steps_by_two = search (rules, opened)
-
--- n = i, and for (j = 0; j < n; j += 2) ;
-inner_ends_by_no_rule : first_in (counts 0 0 (number 9) 1 (does (Block (does (Eval (at Int (Set 2 (local 0)))) ∷ counts 1 1 (local 2) 2 (does Empty) ∷ [])))) ≡ Some (record { rule = rule.Call; at = nowhere })
-unfolding first_unstable normal_form all_inside has_threads is_kept_at is_variable clause_of
-inner_ends_by_no_rule = search (rules, opened)
-
 -- n = i, and for (j = 0; j < n; j += 1) ; which ends, but by a bound that changes
 inner_bound_changes : first_in (counts 0 0 (number 9) 1 (does (Block (does (Eval (at Int (Set 2 (local 0)))) ∷ counts 1 1 (local 2) 1 (does Empty) ∷ [])))) ≡ Some breaks
 unfolding first_unstable normal_form all_inside has_threads is_kept_at is_variable clause_of

@@ -1,7 +1,6 @@
 -- The references of a loop, which are the accesses of its test and its body in the order of the text, and what each goes through.
-use Rattle.std.specs.Prelude.{ℕ, Bool, true, false, ◌&&◌, ◌==◌, not, cond, List, [], ◌∷◌, ◌++◌, map, Option, Some, None}
+use Rattle.std.specs.Prelude.{ℕ, Bool, ◌&&◌, not, cond, List, [], ◌∷◌, ◌++◌, map, Option, Some, None}
 use Rattle.xc_word.specs.declared.memory.Kind.TheVariants as kind
-use Rattle.xc_tree.specs.declared.operator.BinOp.{BinOp}
 use Rattle.xc_tree.specs.declared.operator.BinOp.TheVariants as op
 use Rattle.xc_tree.specs.declared.pragmas.Root.{Root}
 use Rattle.xc_tree.specs.declared.pragmas.Root.TheVariants as root
@@ -13,7 +12,7 @@ use Rattle.xc_tree.specs.declared.expr.ExprKind.TheFolds.{fold-Expr, map-ExprKin
 use Rattle.xc_tree.specs.declared.stmt.Stmt.{Stmt}
 use Rattle.xc_tree.specs.declared.stmt.Item.TheOpen.{StmtKind-F}
 use Rattle.xc_tree.specs.declared.stmt.Item.TheFolds.{fold-Stmt}
-use Rattle.xc_tree.specs.Lists.{joined, passes}
+use Rattle.xc_tree.specs.Lists.{joined}
 use Rattle.xc_tree.specs.Types.{is_pointer, array_under}
 use Rattle.xc_tree.specs.Walk.{of_item, if_there}
 use Rattle.xc_form.specs.declared.effect.Effect.{Effect}

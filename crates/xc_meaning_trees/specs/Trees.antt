@@ -1,5 +1,5 @@
 -- What a typed tree stands for: types, forms of accesses and the kinds of loops are looked at here, and nowhere behind it.
-use Rattle.std.specs.Prelude.{ℕ, zero, suc, Bool, true, false, cond, List, [], ◌∷◌, ◌++◌, map, take, length, filter, Option, Some, None, Ok, Err, Result, slice_get, option_map}
+use Rattle.std.specs.Prelude.{ℕ, zero, suc, Bool, true, false, cond, List, [], ◌∷◌, map, take, length, filter, Option, Some, None, Ok, Err, Result, slice_get, option_map}
 use Rattle.xc_text_place.specs.declared.Span.{Span}
 use Rattle.xc_word.specs.declared.memory.Cell.{Cell}
 use Rattle.xc_word.specs.Cells.{fresh}
@@ -12,8 +12,6 @@ use Rattle.xc_tree.specs.declared.expr.ExprKind.TheOpen.{ExprKind-F}
 use Rattle.xc_tree.specs.declared.expr.ExprKind.TheFolds.{fold-Expr}
 use Rattle.xc_tree.specs.declared.stmt.Stmt.{Stmt}
 use Rattle.xc_tree.specs.declared.stmt.Capture.{Capture}
-use Rattle.xc_tree.specs.declared.stmt.LoopForm.{LoopForm}
-use Rattle.xc_tree.specs.declared.stmt.LoopForm.TheVariants as form
 use Rattle.xc_tree.specs.declared.stmt.NotNormal.{NotNormal}
 use Rattle.xc_tree.specs.declared.stmt.StmtKind.{StmtKind, roll-StmtKind}
 use Rattle.xc_tree.specs.declared.stmt.Item.{Item, roll-Item}

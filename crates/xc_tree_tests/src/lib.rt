@@ -8,6 +8,8 @@ mod forms;
 #[cfg(test)]
 mod lines;
 #[cfg(test)]
+mod stable;
+#[cfg(test)]
 mod switches;
 #[cfg(test)]
 mod texts;
