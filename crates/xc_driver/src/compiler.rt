@@ -3,6 +3,7 @@
 ghost use Rattle.std.specs.Prelude.{◌≡◌, ◌≤◌, ◌^◌, None, length, IfOk, IfErr};
 ghost use Rattle.std.specs.List.{All};
 ghost use Rattle.xc_lex.specs.Source.{AreTokens, IsSpelled};
+ghost use Rattle.xc_tree_sizes.specs.Nodes.{IsSmall};
 ghost use Rattle.xc_type.specs.Checked.{IsTree};
 ghost use Rattle.xc_gen.specs.Unbuilt.{unbuilt_of};
 ghost use Rattle.xc_driver.specs.Compiles as spec;
@@ -72,6 +73,7 @@ fn tree_of_raw(
     requires spelled { All (IsSpelled source.now) tokens.now }
     requires parsed { spec.IsParsed source.now tokens.now raw }
     ensures tree { IfOk result (IsTree source.now tokens.now raw) }
+    ensures small { IfOk result IsSmall }
     ensures refused { IfErr result (spec.IsRefused source.now) }
 {
     match check(alloc, source, tokens, raw) {
@@ -90,6 +92,7 @@ fn tree_of_tokens(alloc: Global, source: &[u8], tokens: &Tokens) -> Result<Tree,
     requires spelled { All (IsSpelled source.now) tokens.now }
     requires tokens { AreTokens source.now tokens.now }
     ensures tree { IfOk result (spec.IsTreeOf source.now) }
+    ensures small { IfOk result IsSmall }
     ensures refused { IfErr result (spec.IsRefused source.now) }
 {
     let raw = raw_of(alloc, source, tokens)?;
@@ -100,6 +103,7 @@ fn tree_of_tokens(alloc: Global, source: &[u8], tokens: &Tokens) -> Result<Tree,
 fn tree_of(alloc: Global, source: &[u8]) -> Result<Tree, CompileFault>
     requires { length source.now ≤ 2 ^ 20 }
     ensures tree { IfOk result (spec.IsTreeOf source.now) }
+    ensures small { IfOk result IsSmall }
     ensures refused { IfErr result (spec.IsRefused source.now) }
 {
     let tokens = tokens_of(alloc, source)?;
@@ -112,6 +116,7 @@ fn tree_of(alloc: Global, source: &[u8]) -> Result<Tree, CompileFault>
 fn compile_tree(alloc: Global, source: &[u8], tree: Tree) -> Result<Compiled, CompileFault>
     requires short { length source.now ≤ 2 ^ 20 }
     requires tree { spec.IsTreeOf source.now tree }
+    requires small { IsSmall tree }
     ensures compiled { IfOk result (spec.IsCompiled source.now) }
     ensures built { IfOk result (λ c. unbuilt_of c.tree ≡ None) }
     ensures refused { IfErr result (spec.IsRefused source.now) }

@@ -11,4 +11,5 @@ pub mod Whole
 pub mod Formats
 pub mod Typed
 pub mod Laid
+pub mod Lines
 mod Samples

@@ -1,8 +1,7 @@
 -- A small program that is well typed.
-use Rattle.std.proofs.Common.{rules, ◌≡◌, ℕ, List, [], ◌∷◌, Bool, true, false}
-use Rattle.std.specs.Prelude.{Some, None}
+use Rattle.std.proofs.Common.{rules, ◌≡◌, List, [], ◌∷◌, true, false}
 use Rattle.xc_tree.specs.declared.operator.BinOp.TheVariants as op
-use Rattle.xc_tree.specs.declared.ty.Ty.{Ty, Int, Uint, Ptr}
+use Rattle.xc_tree.specs.declared.ty.Ty.{Int, Uint, Ptr}
 use Rattle.xc_tree.specs.declared.expr.Expr.{Expr}
 use Rattle.xc_tree.specs.declared.expr.ExprKind.{Const, Global, Update}
 use Rattle.xc_tree.specs.declared.stmt.Stmt.{Stmt}

@@ -399,11 +399,11 @@ fn put_commands(emit: &mut Emit, all: &[Stmt]) -> Result<(), AllocError>
 
 /// The instructions of a body, with a frame of its own.
 pub(crate) fn emit_whole(alloc: Global, body: &Stmt) -> Result<Items<Instr>, AllocError>
-    requires { NamesIn most_globals (command_of body.now) }
-    ensures code { IfOk result (λ code. code ≡ whole_code (command_of body.now)) }
-    ensures room { OnOk result (waiting_for_of (command_of body.now) < 2 ^ 32) }
+    requires names { NamesIn most_globals (command_of body.now) }
+    requires room { waiting_for_of (command_of body.now) + 1 < 2 ^ 32 }
+    ensures { IfOk result (λ code. code ≡ whole_code (command_of body.now)) }
 {
-    let cells = waiting_for(body)?.checked_add(1).ok_or(AllocError)?;
+    let cells = waiting_for(body) + 1;
     let mut emit = Emit::new(alloc);
     put(&mut emit, Instr::Li(left(), u64::from(cells)))?;
     put(&mut emit, Instr::NewSeg(frame(), left()))?;

@@ -1,7 +1,7 @@
 //! From typed programs to code.
 
-ghost use Rattle.std.specs.Prelude.{◌≡◌, ◌+◌, ◌-◌, ◌*◌, ◌^◌, ◌<◌, None, IfOk, length, map};
-ghost use Rattle.std.specs.Bool.{OnTrue};
+ghost use Rattle.std.specs.Prelude.{◌≡◌, None, IfOk, map};
+ghost use Rattle.xc_tree_sizes.specs.Nodes.{IsSmall};
 ghost use Rattle.xc_meaning.specs.Terms.{program_of};
 ghost use Rattle.xc_gen.specs.Unbuilt.{unbuilt_of};
 ghost use Rattle.xc_gen.specs.Globals.{cell_of, runs_of};
@@ -13,9 +13,6 @@ use std::alloc::{AllocError, Global};
 use xc_isa::{Code, Run};
 use xc_tree::{Object, Tree};
 use xc_word::Cell;
-
-/// One more than the most lines of an assembly text.
-const LIMIT: usize = u32::MAX as usize;
 
 fn cell_of(init: &[(u64, bool)]) -> Cell
     ensures { result ≡ cell_of init.now }
@@ -61,21 +58,11 @@ fn copies_of(alloc: Global, formats: &[Items<u8>]) -> Result<Items<Items<u8>>, A
     Ok(copies)
 }
 
-/// Whether the assembly text of code has few enough lines: two, two for each global, and one for each format and instruction.
-fn has_few_lines(globals: usize, formats: usize, instrs: usize) -> bool
-    ensures { OnTrue result (2 + 2 * globals + formats + instrs < 2 ^ 32 - 1) }
-{
-    globals < LIMIT
-        && formats < LIMIT
-        && instrs < LIMIT
-        && 2 + 2 * globals + formats + instrs < LIMIT
-}
-
-/// The code of a program whose forms all have code. Each run of it stands for a source run of the program; none gets stuck or
-/// goes on for ever. An `Err` says that the host's memory is used up, or that the code would have 2^32 - 1 lines or more as a
-/// text, or a frame of 2^32 cells or more.
+/// The code of a small program whose forms all have code. Each run of it stands for a source run of the program; none gets
+/// stuck or goes on for ever. An `Err` says that the host's memory is used up.
 pub fn code_of(alloc: Global, tree: &Tree) -> Result<Code, AllocError>
-    requires { unbuilt_of tree.now ≡ None }
+    requires built { unbuilt_of tree.now ≡ None }
+    requires small { IsSmall tree.now }
     ensures faithful { IfOk result (λ code. Faithful (program_of tree.now) code) }
     ensures no_stuck { IfOk result NoStuck }
     ensures ends { IfOk result (λ code. Ends (program_of tree.now) code) }
@@ -83,9 +70,6 @@ pub fn code_of(alloc: Global, tree: &Tree) -> Result<Code, AllocError>
     let globals = all_runs(alloc, tree.globals.as_slice())?;
     let formats = copies_of(alloc, tree.formats.as_slice())?;
     let instrs = emit_whole(alloc, tree.main_func().body.get())?;
-    if !has_few_lines(globals.len(), formats.len(), instrs.len()) {
-        return Err(AllocError);
-    }
     Ok(Code {
         globals,
         formats,

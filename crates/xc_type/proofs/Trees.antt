@@ -1,6 +1,6 @@
 -- The tree of a text without faults is well typed.
 use Rattle.std.proofs.Common.{◌≡◌, ℕ, ◌^◌, ◌≤◌, List, [], ◌∷◌, length, Bool, true, false, cond, refl, sym, ap, ◌∙◌, subst}
-use Rattle.std.specs.Prelude.{IsTrue, is_some, Option, Some, None}
+use Rattle.std.specs.Prelude.{IsTrue, IfOk, is_some, Option, Some, None, Result, Ok, Err}
 use Rattle.std.specs.List.{All}
 use Rattle.std.specs.Option.{option_zip}
 use Rattle.std.proofs.lemmas.Grind.{common_steps}
@@ -10,7 +10,9 @@ use Rattle.xc_raw.specs.declared.tree.Raw.{Raw, out-Raw}
 use Rattle.xc_parse.specs.Texts.{words_of, Parsed}
 use Rattle.xc_tree.specs.declared.ty.Ty.{Ty}
 use Rattle.xc_tree.specs.declared.tree.Func.{Func}
+use Rattle.xc_tree.specs.declared.tree.Tree.{Tree}
 use Rattle.xc_tree.specs.Valid.{tree_ok}
+use Rattle.xc_tree_sizes.specs.Nodes.{IsSmall}
 use Rattle.xc_type_rule.specs.declared.fault.Fault.{Fault}
 use Rattle.xc_type_rule.specs.declared.found.Member.{Member}
 use Rattle.xc_type_rule.specs.Least.{is_before, least_from}
@@ -25,9 +27,10 @@ use Rattle.xc_welltyped_claims.specs.Table.{with_known, tys_of, struct_tys}
 use Rattle.xc_welltyped_claims.proofs.Texts as texts
 use Rattle.xc_welltyped_counts.specs.Few.{AreFew}
 use Rattle.xc_welltyped_counts.proofs.Few.{whole_few}
+use Rattle.xc_welltyped_sizes.proofs.Small.{tree_small}
 use Rattle.xc_welltyped_unit.specs.Files.{IsTyped}
 use Rattle.xc_welltyped_unit.proofs.Whole.{whole_typed}
-use Rattle.xc_type.specs.Checked.{known_types, struct_types, scope_of}
+use Rattle.xc_type.specs.Checked.{known_types, struct_types, scope_of, IsTree}
 use Rattle.xc_type.specs.InnerChecked.{IsWholeOf}
 
 -- types of members -------------------------------------------------------------
@@ -111,5 +114,17 @@ typed_whole source tokens raw w formats short spelled parsed h is =
     subst (λ m. IsTyped w.scope m formats) (sym made.main_is)
     (subst (λ s. IsTyped s main formats) (sym made.scope)
     (subst (λ fs. IsTyped (scope_of t raw) main fs) (x.formats ∙ sym is) end))
+
+-- the tree of a text is small
+small : (source : List ℕ) (tokens : List Token) (raw : Raw) (tree : Tree) → length tokens ≤ 2 ^ 20 → Parsed (words_of source tokens) raw → IsTree source tokens raw tree → IsSmall tree
+small source tokens raw tree short parsed h =
+    let t = h.0 in
+    let x = h.1 in
+    let made = h.2.made in
+    tree_small source tokens t raw tree x.tokens_are short parsed made.globals made.funcs (made.formats_are ∙ x.formats)
+
+pub all_small : {E : Type 0} (source : List ℕ) (tokens : List Token) (raw : Raw) (r : Result Tree E) → length tokens ≤ 2 ^ 20 → Parsed (words_of source tokens) raw → IfOk r (IsTree source tokens raw) → IfOk r IsSmall
+all_small source tokens raw (Ok tree) short parsed h = small source tokens raw tree short parsed h
+all_small source tokens raw (Err e) short parsed h = tt
 
 pub ruleset tree_rules = (common_steps, tree_valid)

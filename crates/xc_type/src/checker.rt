@@ -4,6 +4,7 @@ ghost use Rattle.std.specs.Prelude.{◌≡◌, ◌≤◌, ◌<◌, ◌^◌, leng
 ghost use Rattle.std.specs.List.{All};
 ghost use Rattle.xc_lex.specs.Source.{IsSpelled};
 ghost use Rattle.xc_parse.specs.Texts.{words_of, Parsed};
+ghost use Rattle.xc_tree_sizes.specs.Nodes.{IsSmall};
 ghost use Rattle.xc_type.specs.Checked as spec;
 ghost use Rattle.xc_type.specs.InnerChecked as inner_spec;
 
@@ -65,6 +66,7 @@ pub fn check(alloc: Global, source: &[u8], tokens: &Tokens, raw: Raw) -> Result<
     requires spelled { All (IsSpelled source.now) tokens.now }
     requires parsed { Parsed (words_of source.now tokens.now) raw }
     ensures tree { IfOk result (spec.IsTree source.now tokens.now raw) }
+    ensures small { IfOk result IsSmall }
     ensures fault { IfErr result (spec.IsFault source.now tokens.now raw) }
 {
     let tokens = tokens.as_slice();

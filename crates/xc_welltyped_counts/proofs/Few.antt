@@ -37,7 +37,7 @@ fold_few : (ts : List Token) (known : List (ℕ × ℕ)) → length (fold with_t
 fold_few [] known = omega arith
 fold_few (x ∷ ts) known = omega (arith, with_few known x, fold_few ts (with_text known x))
 
-formats_few : (source : List ℕ) (ts : List Token) → length (formats_of source ts) ≤ length ts
+pub formats_few : (source : List ℕ) (ts : List Token) → length (formats_of source ts) ≤ length ts
 formats_few source ts = omega (arith, length-map (stretches ts) (text_at source), fold_few ts [])
 
 -- texts ------------------------------------------------------------------------

@@ -1,5 +1,5 @@
 -- What expressions, specifiers, structs and declarators declare.
-use Rattle.std.proofs.Common.{◌≡◌, ℕ, ◌+◌, ◌≤◌, List, [], ◌∷◌, map, length, length-append, length-set, Bool, true, false, refl, sym, ap, subst, cond, arith}
+use Rattle.std.proofs.Common.{◌≡◌, ℕ, ◌+◌, ◌≤◌, List, [], ◌∷◌, map, length-append, length-set, Bool, true, false, refl, sym, ap, subst, cond, arith}
 use Rattle.std.specs.Prelude.{option_and_then, Option, Some, None}
 use Rattle.xc_text_place.specs.declared.Span.{Span}
 use Rattle.xc_tree.specs.declared.ty.Ty.{Ty}
@@ -23,7 +23,7 @@ use Rattle.xc_raw_parts.specs.declared.operators.Suffix.{Suffix}
 use Rattle.xc_raw_parts.specs.declared.operators.Suffix.TheVariants as suffix
 use Rattle.xc_raw_parts.specs.Words.{specifier_words}
 use Rattle.xc_raw_parts.specs.Spans.{word_at}
-use Rattle.xc_raw_parts.specs.Names.{struct_name, captured_names}
+use Rattle.xc_raw_parts.specs.Names.{struct_name}
 use Rattle.xc_type_rule_calls.specs.declared.print.Text.{Text as Printed}
 use Rattle.xc_type_scopes.specs.declared.env.Env.{Env}
 use Rattle.xc_type_scopes.specs.Env.{found, tagged, with_address, with_tag, in_struct, after_struct}
@@ -38,7 +38,7 @@ use Rattle.xc_type_expressions.specs.Judged.{with_none, suffixed, with_one, elem
 use Rattle.xc_welltyped_claims.specs.Lists.{Each}
 use Rattle.xc_welltyped_claims.proofs.Nodes as nodes
 use Rattle.xc_welltyped_claims.proofs.Nodes.{judged_is}
-use Rattle.xc_welltyped_counts.specs.Sizes.{size, sizes}
+use Rattle.xc_welltyped_counts.specs.Sizes.{own_tokens, size, sizes}
 use Rattle.xc_welltyped_counts.specs.Costs.{held, Costs, RoleCosts}
 use Rattle.xc_welltyped_counts.proofs.Sizes.{size_is}
 
@@ -278,7 +278,7 @@ module _ (t : Text) where
 
   -- nodes -----------------------------------------------------------------------------------
 
-  role_costs : (node : Raw) → Each Known (out-Raw node).parts → RoleCosts (1 + length (captured_names t.tokens.now node) + costs (out-Raw node).parts) (role_of t node (roles (out-Raw node).parts))
+  role_costs : (node : Raw) → Each Known (out-Raw node).parts → RoleCosts (1 + own_tokens t.tokens.now node + costs (out-Raw node).parts) (role_of t node (roles (out-Raw node).parts))
   role_costs node p =
       let ns = (out-Raw node).parts in
       record {
@@ -291,7 +291,7 @@ module _ (t : Text) where
 
   pub role_known : (node : Raw) → Known node
   role_known = nodes.by_parts Known (λ n p. subst (λ k. RoleCosts k (judged t n)) (sym (size_is t.tokens.now n))
-      (subst (RoleCosts (1 + length (captured_names t.tokens.now n) + costs (out-Raw n).parts)) (sym (judged_is t n)) (role_costs n p)))
+      (subst (RoleCosts (1 + own_tokens t.tokens.now n + costs (out-Raw n).parts)) (sym (judged_is t n)) (role_costs n p)))
 
   pub all_known : (ns : List Raw) → Each Known ns
   all_known [] = tt
@@ -301,5 +301,5 @@ module _ (t : Text) where
   value_costs n = costs_value (cost n) (judged t n) (role_known n).found
 
   -- the parts of a node cost less than the node
-  pub parts_less : (n : Raw) → costs (out-Raw n).parts + length (captured_names t.tokens.now n) + 1 ≤ cost n
+  pub parts_less : (n : Raw) → costs (out-Raw n).parts + own_tokens t.tokens.now n + 1 ≤ cost n
   parts_less n = omega (arith, size_is t.tokens.now n)

@@ -1,7 +1,7 @@
 -- How large nodes are, by how many tokens they cover.
 use Rattle.std.proofs.Common.{◌≡◌, ℕ, ◌+◌, ◌*◌, ◌-◌, ◌≤◌, List, [], ◌∷◌, length, drop, Bool, true, false, refl, sym, ap, ◌∙◌, subst, arith, Option, Some, None, if◌then◌else◌}
 use Rattle.std.specs.Prelude.{slice_range}
-use Rattle.std.proofs.lemmas.List.{length-map, length-take}
+use Rattle.std.proofs.lemmas.List.{length-drop, length-map, length-take}
 use Rattle.xc_lex.specs.declared.token.Token.{Token}
 use Rattle.xc_raw.specs.declared.rule.Rule.{Rule}
 use Rattle.xc_raw.specs.declared.rule.Rule.TheVariants as rule
@@ -20,7 +20,7 @@ use Rattle.xc_welltyped_claims.specs.Shaped.{rule_in}
 use Rattle.xc_welltyped_claims.proofs.Lists.{each_both}
 use Rattle.xc_welltyped_claims.proofs.Patterns.{Piece, token, part, nodes, node, pieces, Ended, Reads, whole_reads, parts_are}
 use Rattle.xc_welltyped_claims.proofs.Placed.{Placed, AreAt, at_both, words_at, tree_placed}
-use Rattle.xc_welltyped_counts.specs.Sizes.{size_step, size, sizes}
+use Rattle.xc_welltyped_counts.specs.Sizes.{own_from, own_tokens, size_step, size, sizes}
 use Rattle.xc_welltyped_counts.proofs.Credits.{left, credit, pieces_pay}
 
 -- the tokens among pieces
@@ -40,10 +40,23 @@ names_few (x ∷ ts) n = by (is_name x) (names_few ts (n + 1))
 range_few : (ts : List Token) (from to k : ℕ) → to ≤ from + k → length (slice_range ts from to) ≤ k
 range_few ts from to k le = let many = length-take (to - from) (drop from ts) in omega (arith, many, le)
 
+-- one token earlier, there is at most one more
+range_earlier : (ts : List Token) (from to : ℕ) → length (slice_range ts from to) ≤ 1 + length (slice_range ts (from + 1) to)
+range_earlier ts from to = omega (arith, length-take (to - from) (drop from ts), length-take (to - (from + 1)) (drop (from + 1) ts), length-drop from ts, length-drop (from + 1) ts)
+
+between_own : (ts : List Token) (at end : ℕ) (ns : List Raw) → length (names_between ts ns) ≤ own_from ts at end ns
+between_own ts at end [] = omega arith
+between_own ts at end (n ∷ []) = omega arith
+between_own ts at end (n ∷ m ∷ ns) = omega (arith, names_few (slice_range ts (out-Raw n).end (out-Raw m).first) (out-Raw n).end)
+
+-- the names that a `future` statement copies are among its own tokens
+pub captured_own : (ts : List Token) (n : Raw) → length (captured_names ts n) ≤ own_tokens ts n
+captured_own ts n = between_own ts (out-Raw n).first (out-Raw n).end (out-Raw n).parts
+
 -- nodes by their parts --------------------------------------------------------------
 
 module _ (ts : List Token) where
-  pub size_is : (n : Raw) → size ts n ≡ 1 + length (captured_names ts n) + sizes ts (out-Raw n).parts
+  pub size_is : (n : Raw) → size ts n ≡ 1 + own_tokens ts n + sizes ts (out-Raw n).parts
   unfolding size
   size_is n = by_nodes_is (size_step ts) n
 
@@ -65,27 +78,19 @@ module _ (ts : List Token) where
         let here = h.0 in
         omega (arith, more, first, here)
 
-    -- names that a `future` statement copies ------------------------------------------
+    -- tokens of a node's own -----------------------------------------------------------
 
-    part_at : (xs : List Piece) (from end : ℕ) → At from end xs → (n : Raw) (ns : List Raw) → nodes xs ≡ n ∷ ns → (out-Raw n).first ≤ from + own xs
-    part_at [] from end p n ns e = absurd cc
-    part_at (token w ∷ xs) from end p n ns e = let more = part_at xs (from + 1) end p.1 n ns e in omega (arith, more)
-    part_at (part m ∷ xs) from end p n ns e =
-        let same : m ≡ n = cc in
-        let first : (out-Raw n).first ≡ from = subst (λ k. (out-Raw k).first ≡ from) same p.0 in
-        omega (arith, first)
+    earlier : (ns : List Raw) (from end : ℕ) → own_from ts from end ns ≤ 1 + own_from ts (from + 1) end ns
+    earlier [] from end = range_earlier ts from end
+    earlier (n ∷ ns) from end = omega (arith, range_earlier ts from (out-Raw n).first)
 
-    between_few : (xs : List Piece) (from end : ℕ) → At from end xs → length (names_between ts (nodes xs)) ≤ own xs
-    between_few [] from end p = omega arith
-    between_few (token w ∷ xs) from end p = let more = between_few xs (from + 1) end p.1 in omega (arith, more)
-    between_few (part n ∷ xs) from end p = by (nodes xs) refl
-      where
-        by : (ns : List Raw) → nodes xs ≡ ns → length (names_between ts (n ∷ ns)) ≤ own xs
-        by [] e = omega arith
-        by (m ∷ ns) e =
-            let few = range_few ts (out-Raw n).end (out-Raw m).first (own xs) (part_at xs (out-Raw n).end end p.2 m ns e) in
-            let names = names_few (slice_range ts (out-Raw n).end (out-Raw m).first) (out-Raw n).end in
-            omega (arith, few, names)
+    own_few : (xs : List Piece) (from end : ℕ) → At from end xs → own_from ts from end (nodes xs) ≤ own xs
+    own_few [] from end p = range_few ts from end 0 (omega (arith, p))
+    own_few (token w ∷ xs) from end p = let more = own_few xs (from + 1) end p.1 in omega (arith, more, earlier (nodes xs) from end)
+    own_few (part n ∷ xs) from end p =
+        let more = own_few xs (out-Raw n).end end p.2 in
+        let first : (out-Raw n).first ≡ from = p.0 in
+        omega (arith, more, range_few ts from (out-Raw n).first 0 (omega (arith, first)))
 
     -- trees ---------------------------------------------------------------------------------
 
@@ -94,9 +99,9 @@ module _ (ts : List Token) where
     node_paid n xs e p h parts =
         let all = all_paid xs (out-Raw n).first (out-Raw n).end p parts in
         let pays = pieces_pay (rule_in n) xs h in
-        let names = between_few xs (out-Raw n).first (out-Raw n).end p in
-        let is = size_is n ∙ ap (λ ps. 1 + length (names_between ts ps) + sizes ts ps) e in
-        omega (arith, all, pays, names, is)
+        let few = own_few xs (out-Raw n).first (out-Raw n).end p in
+        let is = size_is n ∙ ap (λ ps. 1 + own_from ts (out-Raw n).first (out-Raw n).end ps + sizes ts ps) e in
+        omega (arith, all, pays, few, is)
 
     -- the node that a whole tree makes
     made_paid : (f : Form) (start : ℕ) (r : Rule) → sort f ≡ Some r → Whole f → AreAt source ts start (leaves f) → Each Paid (parts_of start f) → Paid (node r start (start + length (leaves f)) (parts_of start f))

@@ -35,8 +35,9 @@ use Rattle.xc_type_statement_parts.specs.Futures as futures
 use Rattle.xc_type_statements.specs.Stated.{Part, in_order, enclosed, tested, evaluated, eval_by, return_by, clause_by, test_clause, step_clause, else_by, if_by, while_by, do_by, clauses, repeated, for_inner, for_by, future_by, plain_by, stmt_by, stated_by, part_of, statement}
 use Rattle.xc_welltyped_claims.specs.Lists.{Each}
 use Rattle.xc_welltyped_claims.proofs.Nodes as nodes
-use Rattle.xc_welltyped_counts.specs.Sizes.{total}
+use Rattle.xc_tree_sizes.specs.Nodes.{total}
 use Rattle.xc_welltyped_counts.specs.Costs.{held, Costs, InitialiserCosts, PartCosts}
+use Rattle.xc_welltyped_counts.proofs.Sizes.{captured_own}
 use Rattle.xc_welltyped_counts.proofs.Roles.{keeps, costs_less, costs_named, cost, costs, role_known, value_costs, parts_less}
 
 -- objects -----------------------------------------------------------------------
@@ -320,7 +321,7 @@ module _ (t : Text) where
   costs_plain node rule.Eval ps a looping p same e = omega (arith, parts_less t node, costs_eval (span_in t node) (out-Raw node).parts e)
   costs_plain node rule.If ps a looping p same e = omega (arith, parts_less t node, same, costs_if (span_in t node) a looping ps p e)
   costs_plain node rule.Return ps a looping p same e = omega (arith, parts_less t node, costs_return (span_in t node) a (out-Raw node).parts e)
-  costs_plain node rule.Future ps a looping p same e = omega (arith, parts_less t node, same, costs_future node ps p e)
+  costs_plain node rule.Future ps a looping p same e = omega (arith, parts_less t node, same, captured_own t.tokens.now node, costs_future node ps p e)
   costs_plain node _ ps a looping p same e = keeps (cost t node) e
 
   costs_stmt : (node : Raw) (r : Rule) (ps : List Part) (a : Answer) (looping : Bool) → AreKnown ps → Of node ps → Costs (cost t node) (stmt_by t node r ps a looping)

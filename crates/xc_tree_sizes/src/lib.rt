@@ -1,0 +1,2 @@
+//! How large trees are.
+#![tactic(auto)]

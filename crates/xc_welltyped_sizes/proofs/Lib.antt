@@ -1,0 +1,12 @@
+pub mod Forms
+pub mod Values
+pub mod Operators
+pub mod Places
+pub mod Calls
+pub mod Nodes
+pub mod Initialisers
+pub mod Futures
+pub mod Statements
+pub mod Lowered
+pub mod Items
+pub mod Small
