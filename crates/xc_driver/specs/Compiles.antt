@@ -13,9 +13,11 @@ use Rattle.xc_tree.specs.declared.tree.Tree.{Tree}
 use Rattle.xc_type.specs.declared.fault.CheckFault.TheVariants as check
 use Rattle.xc_type.specs.Checked.{IsTree, IsFault}
 use Rattle.xc_isa.specs.declared.code.Code.{Code}
-use Rattle.xc_meaning.specs.Terms.{program_of}
+use Rattle.xc_meaning.specs.Terms as straight
+use Rattle.xc_meaning_trees.specs.Trees.{program_of}
+use Rattle.xc_gen_promises.specs.Promises.{StandsFor}
 use Rattle.xc_gen.specs.Unbuilt.{unbuilt_of}
-use Rattle.xc_gen.specs.Faithful.{Faithful, NoStuck, Ends}
+use Rattle.xc_gen.specs.Faithful.{NoStuck, Ends}
 use Rattle.xc_driver.specs.declared.compiler.Compiled.{Compiled}
 use Rattle.xc_driver.specs.declared.fault.RefusalKind.{RefusalKind}
 use Rattle.xc_driver.specs.declared.fault.RefusalKind.TheVariants.{Lex, Syntax, Depth, Name, Typing, Count, Unbuilt}
@@ -31,11 +33,12 @@ pub record IsParsed (source : List ℕ) (tokens : List Token) (raw : Raw) : Type
 abbrev pub IsTreeOf : List ℕ → Tree → Type 0
 IsTreeOf source tree = (tokens : List Token) × (raw : Raw) × IsParsed source tokens raw × IsTree source tokens raw tree
 
--- the code of a tree is faithful to its program, never stuck, and ends in time
+-- each run of the code of a tree stands for a source run of its program; it is never stuck, and ends in time. What is built is straight, so
+-- its bounds are told of the straight program that it is
 pub record IsCodeOf (tree : Tree) (code : Code) : Type 0 where
-  pub faithful : Faithful (program_of tree) code
+  pub stands : StandsFor (program_of tree) code
   pub no_stuck : NoStuck code
-  pub ends : Ends (program_of tree) code
+  pub ends : Ends (straight.program_of tree) code
 
 pub record IsCompiled (source : List ℕ) (c : Compiled) : Type 0 where
   pub tree : IsTreeOf source c.tree

@@ -21,7 +21,8 @@ use Rattle.xc_meaning.specs.Meaning.{Point, point, Outcome, Done, Returned, Trap
 use Rattle.xc_meaning.specs.Source.{replies_of, main_with, IsTrace, IsWhole, SourceRun, HasEnded}
 use Rattle.xc_gen.specs.Fits.{most_globals, NamesIn, PrintsIn}
 use Rattle.xc_gen.specs.Code.{command_code, leave_code, enter_code, frame_cells, whole_code, waiting_in, waiting_among, waiting_for, waiting_for_all}
-use Rattle.xc_gen.specs.Faithful.{IsMachine, SameResult, Faithful, NoStuck, size_of, size_of_all, largest, largest_among, TicksAtMost, PrintsAtMost, words_of_globals, step_bound, word_bound, Ends}
+use Rattle.xc_gen_promises.specs.Promises.{IsMachine, SameResult}
+use Rattle.xc_gen.specs.Faithful.{Faithful, NoStuck, size_of, size_of_all, largest, largest_among, TicksAtMost, PrintsAtMost, words_of_globals, step_bound, word_bound, Ends}
 use Rattle.xc_gen.proofs.Ways.{Way, way_on, Rest, Falls, IsWithin, within}
 use Rattle.xc_gen.proofs.Grows.{way_grows}
 use Rattle.xc_gen.proofs.Deeds.{mine, part_mine, part_others, trapped_mine, ticks_of, Chain, chain_applies, append_none}

@@ -8,14 +8,7 @@ use Rattle.xc_isa.specs.Machine.{State, Spent, start, step, HasQuit, IsReady, li
 use Rattle.xc_isa.specs.Runs.{At, Trap, run}
 use Rattle.xc_meaning.specs.Terms.{Term, Number, Read, Write, Update, Unary, Binary, And, Or, Cond, Comma, Print, Terms, NoMore, More, Command, Empty, Eval, Block, Return, Commands, End, Then, Program}
 use Rattle.xc_meaning.specs.Source.{SourceRun, HasEnded}
-
--- a machine: 1 to 64 processors, each of 1 to 128 streams
-abbrev pub IsMachine : ℕ → ℕ → Type 0
-IsMachine processors streams = ((1 ≤ processors) × (processors ≤ 64)) × ((1 ≤ streams) × (streams ≤ 128))
-
--- the same output, and the same cells of the globals, values and states
-abbrev pub SameResult : ℕ → World → World → Type 0
-SameResult globals v w = (v.out ≡ w.out) × ((g : ℕ) → g ≤ globals → v.segs g ≡ w.segs g)
+use Rattle.xc_gen_promises.specs.Promises.{IsMachine, SameResult}
 
 -- For every number of processors and streams and every interleaving, a run of the code that has ended has the result of a source run that has
 -- ended, and a run that has trapped has a source run that has trapped.

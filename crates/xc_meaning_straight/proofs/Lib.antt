@@ -1,2 +1,2 @@
-mod Agrees
-mod Traces
+pub mod Agrees
+pub mod Traces

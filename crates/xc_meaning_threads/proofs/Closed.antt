@@ -21,7 +21,7 @@ entered_steady s calls (Some f) vs p more =
     then_steady (run_from s f.formals vs f.body) (λ exit q. Gives (answer_of exit) (marked CallEnds (record q { env = p.env }))) (run_steady s calls f.formals vs f.body)
     (λ exit. at_env_steady (λ q. Gives (answer_of exit) (marked CallEnds q)) p.env (marked_steady (Gives (answer_of exit)) CallEnds refl (gives_steady (answer_of exit)))) p more
 
-called_steady : (formats : List (List ℕ)) (fns : List Function) (turns n f : ℕ) (vs : List ℕ) → Steady (called formats fns turns n f vs)
+pub called_steady : (formats : List (List ℕ)) (fns : List Function) (turns n f : ℕ) (vs : List ℕ) → Steady (called formats fns turns n f vs)
 called_steady formats fns turns zero f vs p more = late_steady p more
 called_steady formats fns turns (suc n) f vs p more =
     entered_steady (record { formats = formats; call = called formats fns turns n; turns = turns }) (called_steady formats fns turns n) (slice_get fns f) vs p more

@@ -4,12 +4,14 @@ use Rattle.std.specs.Prelude.{nat_lt}
 use Rattle.xc_text_place.specs.declared.Pos.{Pos}
 use Rattle.xc_sched.specs.Choices.{PicksInTurn, PicksBySeed, PicksNext}
 use Rattle.xc_tree.specs.declared.tree.Tree.{Tree}
-use Rattle.xc_meaning.specs.Terms.{Program, program_of}
+use Rattle.xc_meaning.specs.Terms as straight
+use Rattle.xc_meaning_terms.specs.Terms.{Program}
+use Rattle.xc_meaning_trees.specs.Trees.{program_of}
 use Rattle.xc_isa.specs.declared.code.Code.{Code}
 use Rattle.xc_isa.specs.declared.instr.TrapKind.{TrapKind}
 use Rattle.xc_isa.specs.Machine.{start}
 use Rattle.xc_gen.specs.Unbuilt.{unbuilt_of}
-use Rattle.xc_gen.specs.Faithful.{IsMachine}
+use Rattle.xc_gen_promises.specs.Promises.{IsMachine}
 use Rattle.xc_driver.specs.declared.fault.RefusalKind.{RefusalKind}
 use Rattle.xc_driver.specs.Compiles.{IsTreeOf, IsCodeOf, IsOnlyRefusal}
 use Rattle.xc_machine_room.specs.Rooms.{HasRoom as LeavesRoom, PicksReady, IsEnd, IsShort}
@@ -32,7 +34,7 @@ use Rattle.xc_top.proofs.Sources.{output_of, trap_of}
 
 -- ---- one run
 
-module _ (tree : Tree) (code : Code) (of_tree : IsCodeOf tree code) (o : Options) (machine : IsMachine o.processors o.streams) (room : HasRoom o (program_of tree)) where
+module _ (tree : Tree) (code : Code) (of_tree : IsCodeOf tree code) (o : Options) (machine : IsMachine o.processors o.streams) (room : HasRoom o (straight.program_of tree)) where
   leaves_room : LeavesRoom code (start code o.processors o.streams) (limits_in o) o.steps
   leaves_room = record {
     few = λ ss new e. omega (arith, of_tree.ends.steps o.processors o.streams room.ticks machine room.are_few ss new e, room.steps);
@@ -88,14 +90,14 @@ scheduled (choice.Seed n) schedule name k bad = bad
 scheduled (choice.Schedule file) schedule name k bad = tt
 
 executed_ends : (tree : Tree) (code : Code) → IsCodeOf tree code → (o : Options) (schedule : Option (List ℕ)) (status : Status) (out err : List ℕ)
-    → Executes o code schedule status out err → HasRoom o (program_of tree) → IsEndOf o.choice (program_of tree) status out
+    → Executes o code schedule status out err → HasRoom o (straight.program_of tree) → IsEndOf o.choice (program_of tree) status out
 executed_ends tree code of_tree o schedule status out err (NoSchedule r) room =
     subst (λ s. IsEndOf o.choice (program_of tree) s out) (sym r.is_status) (scheduled o.choice schedule r.name r.line r.why)
 executed_ends tree code of_tree o schedule status out err (WasRun r) room =
     let p = program_of tree in
     let m : Numbers = record { steps = r.steps; streams = o.streams; processors = o.processors } in
-    let ended = λ (e : r.why ≡ ending.Ended). output_of p code o r.steps out r.named of_tree.faithful r.machine r.source (subst (λ w. Plays r.source code o w r.steps out r.named) e r.plays) in
-    let trapped = λ (kind : TrapKind) (s : ℕ) (e : r.why ≡ ending.Trap kind s). trap_of p code o r.steps out r.named of_tree.faithful r.machine r.source kind s (subst (λ w. Plays r.source code o w r.steps out r.named) e r.plays) in
+    let ended = λ (e : r.why ≡ ending.Ended). output_of p code o r.steps out r.named of_tree.stands r.machine r.source (subst (λ w. Plays r.source code o w r.steps out r.named) e r.plays) in
+    let trapped = λ (kind : TrapKind) (s : ℕ) (e : r.why ≡ ending.Trap kind s). trap_of p code o r.steps out r.named of_tree.stands r.machine r.source kind s (subst (λ w. Plays r.source code o w r.steps out r.named) e r.plays) in
     subst (λ s. IsEndOf o.choice p s out) (sym r.is_status)
     (told_so o.choice p r.why m out ended trapped (comes_so tree code of_tree o r.machine room r.why r.steps out r.named o.choice schedule r.source r.chooses r.plays))
 

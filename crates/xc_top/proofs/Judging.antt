@@ -13,7 +13,7 @@ use Rattle.xc_machine_play.specs.declared.source.Source.{Source}
 use Rattle.xc_machine_play.specs.declared.source.Source.TheVariants as source
 use Rattle.xc_machine_play.specs.declared.outcome.Ending.{Ending}
 use Rattle.xc_machine_play.specs.Plays.{Plays, IsRecord}
-use Rattle.xc_gen.specs.Faithful.{IsMachine}
+use Rattle.xc_gen_promises.specs.Promises.{IsMachine}
 use Rattle.xc_top.specs.declared.status.Bad.{Bad}
 use Rattle.xc_top.specs.declared.status.Bad.TheVariants.{Line}
 use Rattle.xc_top.specs.declared.status.Status.{Status}

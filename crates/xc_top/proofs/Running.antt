@@ -3,7 +3,8 @@ use Rattle.std.proofs.Common.{◌≡◌, ℕ, ◌<◌, List, Option, Some, None,
 use Rattle.std.specs.Prelude.{IfSome}
 use Rattle.xc_edge.specs.Counts.{Rises}
 use Rattle.xc_tree.specs.declared.tree.Tree.{Tree}
-use Rattle.xc_meaning.specs.Terms.{Program, program_of}
+use Rattle.xc_meaning_terms.specs.Terms.{Program}
+use Rattle.xc_meaning_trees.specs.Trees.{program_of}
 use Rattle.xc_top_words.specs.declared.command.Choice.{Choice}
 use Rattle.xc_top_words.specs.declared.command.Choice.TheVariants as choice
 use Rattle.xc_top_words.specs.declared.command.Command.{Command}

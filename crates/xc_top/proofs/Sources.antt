@@ -2,13 +2,15 @@
 use Rattle.std.proofs.Common.{◌≡◌, ◌≤◌, ℕ, List, [], ◌∷◌, ◌++◌, Bool, true, false, Option, Some, length, inl, inr, refl, sym, ap, ◌∙◌, subst}
 use Rattle.std.specs.Prelude.{nat_lt}
 use Rattle.xc_sched.specs.Choices.{PicksInTurn, PicksBySeed, PicksNext}
-use Rattle.xc_meaning.specs.Terms.{Program, program_of}
+use Rattle.xc_meaning_terms.specs.Terms.{Program}
+use Rattle.xc_meaning_trees.specs.Trees.{program_of}
+use Rattle.xc_gen_promises.specs.Promises as promises
 use Rattle.xc_isa.specs.declared.code.Code.{Code}
 use Rattle.xc_isa.specs.declared.instr.TrapKind.{TrapKind}
 use Rattle.xc_isa.specs.Machine as machine
 use Rattle.xc_isa.specs.Machine.{State, start, step}
 use Rattle.xc_isa.specs.Runs.{Trap as Traps, run, onward}
-use Rattle.xc_gen.specs.Faithful.{IsMachine, Faithful}
+use Rattle.xc_gen_promises.specs.Promises.{IsMachine}
 use Rattle.xc_machine.specs.declared.run.End.{End}
 use Rattle.xc_machine.specs.declared.run.End.TheVariants as end
 use Rattle.xc_machine.specs.Limits.{Limits}
@@ -63,7 +65,7 @@ run_traps picks code limits c st (t ∷ ss) d new s kind f e =
 
 -- ---- what a run has of a source run, by what chooses its streams
 
-module _ {C : Type 0} (picks : C → List ℕ → Option ℕ → C → Type 0) (has_left : C → Bool) (c : C) (p : Program) (code : Code) (o : Options) (steps : ℕ) (out named : List ℕ) (faithful : Faithful p code) (machine : IsMachine o.processors o.streams) where
+module _ {C : Type 0} (picks : C → List ℕ → Option ℕ → C → Type 0) (has_left : C → Bool) (c : C) (p : Program) (code : Code) (o : Options) (steps : ℕ) (out named : List ℕ) (code_stands : promises.StandsFor p code) (machine : IsMachine o.processors o.streams) where
   output_by : PlaysBy picks has_left c code o ending.Ended steps out named → IsSourceOutput p out
   output_by (inl big) = absurd (let bad = big.told in cc)
   output_by (inr both) =
@@ -71,7 +73,7 @@ module _ {C : Type 0} (picks : C → List ℕ → Option ℕ → C → Type 0) (
       let r = h.run in
       let is = ended_is h.end (has_left h.after) h.told in
       let quit = (subst (λ e. Ends picks code (limits_in o) o.steps (length r.streams) r.last h.last h.after e) is r.ends).0 in
-      let s = faithful.ends o.processors o.streams machine r.streams h.last (follows_run picks code (limits_in o) c (start code o.processors o.streams) r.streams r.last h.last r.follows) quit in
+      let s = code_stands.ends o.processors o.streams r.streams h.last (machine, follows_run picks code (limits_in o) c (start code o.processors o.streams) r.streams r.last h.last r.follows) quit in
       (s.0, s.1, s.2, s.3, s.4.0 ∙ sym h.printed)
 
   trap_by : (kind : TrapKind) (s : ℕ) → PlaysBy picks has_left c code o (ending.Trap kind s) steps out named → HasSourceTrap p
@@ -81,18 +83,18 @@ module _ {C : Type 0} (picks : C → List ℕ → Option ℕ → C → Type 0) (
       let r = h.run in
       let is = trap_is h.end (has_left h.after) kind s h.told in
       let traps = (subst (λ e. Ends picks code (limits_in o) o.steps (length r.streams) r.last h.last h.after e) is r.ends).1 in
-      faithful.traps o.processors o.streams machine (r.streams ++ s ∷ []) kind (run_traps picks code (limits_in o) c (start code o.processors o.streams) r.streams r.last h.last s kind r.follows traps)
+      code_stands.traps o.processors o.streams (r.streams ++ s ∷ []) kind (machine, run_traps picks code (limits_in o) c (start code o.processors o.streams) r.streams r.last h.last s kind r.follows traps)
 
-module _ (p : Program) (code : Code) (o : Options) (steps : ℕ) (out named : List ℕ) (faithful : Faithful p code) (machine : IsMachine o.processors o.streams) where
+module _ (p : Program) (code : Code) (o : Options) (steps : ℕ) (out named : List ℕ) (code_stands : promises.StandsFor p code) (machine : IsMachine o.processors o.streams) where
   pub output_of : (source : Source) → Plays source code o ending.Ended steps out named → IsSourceOutput p out
-  output_of Turns h = output_by PicksInTurn (λ (from : ℕ). false) 0 p code o steps out named faithful machine h
-  output_of (Seed n) h = output_by PicksBySeed (λ (x : ℕ). false) n p code o steps out named faithful machine h
-  output_of (Schedule entries) h = output_by PicksNext (λ (left : List ℕ). nat_lt 0 (length left)) entries p code o steps out named faithful machine h
+  output_of Turns h = output_by PicksInTurn (λ (from : ℕ). false) 0 p code o steps out named code_stands machine h
+  output_of (Seed n) h = output_by PicksBySeed (λ (x : ℕ). false) n p code o steps out named code_stands machine h
+  output_of (Schedule entries) h = output_by PicksNext (λ (left : List ℕ). nat_lt 0 (length left)) entries p code o steps out named code_stands machine h
 
   pub trap_of : (source : Source) (kind : TrapKind) (s : ℕ) → Plays source code o (ending.Trap kind s) steps out named → HasSourceTrap p
-  trap_of Turns kind s h = trap_by PicksInTurn (λ (from : ℕ). false) 0 p code o steps out named faithful machine kind s h
-  trap_of (Seed n) kind s h = trap_by PicksBySeed (λ (x : ℕ). false) n p code o steps out named faithful machine kind s h
-  trap_of (Schedule entries) kind s h = trap_by PicksNext (λ (left : List ℕ). nat_lt 0 (length left)) entries p code o steps out named faithful machine kind s h
+  trap_of Turns kind s h = trap_by PicksInTurn (λ (from : ℕ). false) 0 p code o steps out named code_stands machine kind s h
+  trap_of (Seed n) kind s h = trap_by PicksBySeed (λ (x : ℕ). false) n p code o steps out named code_stands machine kind s h
+  trap_of (Schedule entries) kind s h = trap_by PicksNext (λ (left : List ℕ). nat_lt 0 (length left)) entries p code o steps out named code_stands machine kind s h
 
 -- ---- what a status says of the run
 
@@ -121,23 +123,23 @@ trap_told (ending.OutFull len piece) shown m h = absurd cc
 -- ---- what was executed
 
 ok_sourced : (p : Program) (o : Options) (code : Code) (schedule : Option (List ℕ)) (shown : Shown) (out err : List ℕ)
-    → Faithful p code → Executes o code schedule (Ok shown) out err → IsSourceOutput p out
-ok_sourced p o code schedule shown out err faithful (NoSchedule r) = absurd (let is = r.is_status in cc)
-ok_sourced p o code schedule shown out err faithful (WasRun r) =
+    → promises.StandsFor p code → Executes o code schedule (Ok shown) out err → IsSourceOutput p out
+ok_sourced p o code schedule shown out err code_stands (NoSchedule r) = absurd (let is = r.is_status in cc)
+ok_sourced p o code schedule shown out err code_stands (WasRun r) =
     let is = ended_told r.why shown (record { steps = r.steps; streams = o.streams; processors = o.processors }) r.is_status in
-    output_of p code o r.steps out r.named faithful r.machine r.source (subst (λ w. Plays r.source code o w r.steps out r.named) is r.plays)
+    output_of p code o r.steps out r.named code_stands r.machine r.source (subst (λ w. Plays r.source code o w r.steps out r.named) is r.plays)
 
 trap_sourced : (p : Program) (o : Options) (code : Code) (schedule : Option (List ℕ)) (shown : Option TrapShown) (out err : List ℕ)
-    → Faithful p code → Executes o code schedule (Trap shown) out err → HasSourceTrap p
-trap_sourced p o code schedule shown out err faithful (NoSchedule r) = absurd (let is = r.is_status in cc)
-trap_sourced p o code schedule shown out err faithful (WasRun r) =
+    → promises.StandsFor p code → Executes o code schedule (Trap shown) out err → HasSourceTrap p
+trap_sourced p o code schedule shown out err code_stands (NoSchedule r) = absurd (let is = r.is_status in cc)
+trap_sourced p o code schedule shown out err code_stands (WasRun r) =
     let t = trap_told r.why shown (record { steps = r.steps; streams = o.streams; processors = o.processors }) r.is_status in
-    trap_of p code o r.steps out r.named faithful r.machine r.source t.0 t.1 (subst (λ w. Plays r.source code o w r.steps out r.named) t.2 r.plays)
+    trap_of p code o r.steps out r.named code_stands r.machine r.source t.0 t.1 (subst (λ w. Plays r.source code o w r.steps out r.named) t.2 r.plays)
 
 ran_source : (options : Options) (file text : List ℕ) (o : Options) (code : Code) (schedule : Option (List ℕ)) (status : Status) (out err : List ℕ)
     → IsSourceCode text code → Executes o code schedule status out err → IsSourced (Run options file) text status out
-ran_source options file text o code schedule (Ok shown) out err stands h = (stands.0, stands.1, ok_sourced (program_of stands.0) o code schedule shown out err stands.2.faithful h)
-ran_source options file text o code schedule (Trap shown) out err stands h = (stands.0, stands.1, trap_sourced (program_of stands.0) o code schedule shown out err stands.2.faithful h)
+ran_source options file text o code schedule (Ok shown) out err stands h = (stands.0, stands.1, ok_sourced (program_of stands.0) o code schedule shown out err stands.2.stands h)
+ran_source options file text o code schedule (Trap shown) out err stands h = (stands.0, stands.1, trap_sourced (program_of stands.0) o code schedule shown out err stands.2.stands h)
 ran_source options file text o code schedule (ReadFault name) out err stands h = tt
 ran_source options file text o code schedule WriteFault out err stands h = tt
 ran_source options file text o code schedule Usage out err stands h = tt

@@ -2,7 +2,8 @@
 use Rattle.std.specs.Prelude.{◌≡◌, ◌≢◌, ◌⊎◌, ◌<◌, ◌≤◌, ◌+◌, ◌^◌, ℕ, List, [], Option, Some, None, length, IsSome}
 use Rattle.xc_edge.specs.Counts.{Rises}
 use Rattle.xc_tree.specs.declared.tree.Tree.{Tree}
-use Rattle.xc_meaning.specs.Terms.{Program, program_of}
+use Rattle.xc_meaning.specs.Terms as straight
+use Rattle.xc_meaning_terms.specs.Terms.{Program}
 use Rattle.xc_gen.specs.Unbuilt.{unbuilt_of}
 use Rattle.xc_driver.specs.Compiles.{IsTreeOf}
 use Rattle.xc_top_words.specs.declared.command.Options.{Options}
@@ -124,7 +125,7 @@ pub record CanRun (command : Option Command) (shelf : ShelfSeen) (out err : Sink
   pub short : length text ≤ source_limit
   pub is_tree : IsTreeOf text tree
   pub built : unbuilt_of tree ≡ None
-  pub room : HasRoom options (program_of tree)
+  pub room : HasRoom options (straight.program_of tree)
   pub fetched : Rises 1 (shelf.before.faults file) (shelf.after.faults file) → ⊥
   pub out_written : Rises 1 out.faults_before out.faults_after → ⊥
   pub err_written : Rises 1 err.faults_before err.faults_after → ⊥

@@ -1,7 +1,9 @@
 -- What a command answers to a text with a tree, where there is room for its program.
 use Rattle.std.specs.Prelude.{◌≡◌, ◌≤◌, ◌*◌, ℕ, List, None}
 use Rattle.xc_tree.specs.declared.tree.Tree.{Tree}
-use Rattle.xc_meaning.specs.Terms.{Program, program_of}
+use Rattle.xc_meaning.specs.Terms as straight
+use Rattle.xc_meaning_terms.specs.Terms.{Program}
+use Rattle.xc_meaning_trees.specs.Trees.{program_of}
 use Rattle.xc_gen.specs.Unbuilt.{unbuilt_of}
 use Rattle.xc_gen.specs.Faithful.{largest, TicksAtMost, PrintsAtMost, words_of_globals, step_bound, word_bound}
 use Rattle.xc_driver.specs.Compiles.{IsTreeOf}
@@ -16,7 +18,7 @@ use Rattle.xc_top.specs.declared.status.Status.TheVariants.{Ok, Trap, Unfinished
 use Rattle.xc_top.specs.Judges.{IsSourceOutput, HasSourceTrap}
 
 -- The options have room for the program: for its steps, by the ticks of source runs, for its live words, and for what source runs print.
-pub record HasRoom (o : Options) (p : Program) : Type 0 where
+pub record HasRoom (o : Options) (p : straight.Program) : Type 0 where
   pub ticks : ℕ
   pub are_few : TicksAtMost p ticks
   pub steps : step_bound (largest p.body) (o.processors * o.streams) ticks ≤ o.steps
@@ -41,6 +43,6 @@ IsEndOf by p _ out = ⊥
 -- A text with a tree whose forms all have code is run to an end where there is room for its program, and it is compiled.
 abbrev pub Completes : Command → List ℕ → Status → List ℕ → Type 0
 Completes (Run o file) text status out =
-    (tree : Tree) → IsTreeOf text tree → unbuilt_of tree ≡ None → HasRoom o (program_of tree) → IsEndOf o.choice (program_of tree) status out
+    (tree : Tree) → IsTreeOf text tree → unbuilt_of tree ≡ None → HasRoom o (straight.program_of tree) → IsEndOf o.choice (program_of tree) status out
 Completes (Compile file) text status out = (tree : Tree) → IsTreeOf text tree → unbuilt_of tree ≡ None → status ≡ Ok Nothing
 Completes (Exec o file) text status out = Unit {0}

@@ -1,13 +1,14 @@
 -- What a command answers to the texts of its files.
 use Rattle.std.specs.Prelude.{◌≡◌, ◌≤◌, ℕ, List, [], ◌++◌, Option, Some, None}
-use Rattle.xc_meaning_world.specs.World.{World, Action}
-use Rattle.xc_meaning_world.specs.Runs.{HasTrapped}
+use Rattle.xc_meaning_world.specs.World.{World}
 use Rattle.xc_text_place.specs.declared.Pos.{Pos}
 use Rattle.xc_tree.specs.declared.tree.Tree.{Tree}
-use Rattle.xc_meaning.specs.Terms.{Program, program_of}
-use Rattle.xc_meaning.specs.Source.{SourceRun, HasEnded}
+use Rattle.xc_meaning_terms.specs.Terms.{Program}
+use Rattle.xc_meaning_threads.specs.Events.{Event}
+use Rattle.xc_meaning_source.specs.Source.{SourceRun, HasEnded, HasTrapped}
+use Rattle.xc_meaning_trees.specs.Trees.{program_of}
 use Rattle.xc_isa.specs.declared.code.Code.{Code}
-use Rattle.xc_gen.specs.Faithful.{IsMachine}
+use Rattle.xc_gen_promises.specs.Promises.{IsMachine}
 use Rattle.xc_driver.specs.declared.fault.RefusalKind.{RefusalKind}
 use Rattle.xc_driver.specs.declared.fault.RefusalKind.TheVariants as refusal
 use Rattle.xc_driver.specs.Compiles.{IsTreeOf, IsCodeOf, IsOnlyTree, IsRefusal, IsOnlyRefusal}
@@ -34,7 +35,7 @@ use Rattle.xc_top.specs.declared.status.Status.{Status}
 use Rattle.xc_top.specs.declared.status.Status.TheVariants.{Ok, Refused, Trap, Unfinished, Stuck, BadSchedule, WordsFull, OutFull}
 use Rattle.xc_top.specs.Lines.{line_of}
 
--- the code of a source's one typed tree, which is faithful to its program, ends in time and is never stuck
+-- the code of a source's one typed tree, whose runs stand for source runs of its program; it ends in time and is never stuck
 abbrev pub IsSourceCode : List ℕ → Code → Type 0
 IsSourceCode text code = (tree : Tree) × IsTreeOf text tree × IsCodeOf tree code × IsOnlyTree text tree
 
@@ -100,11 +101,11 @@ with_choices line (Some choices) = line ++ choices
 
 -- a source run of the program that has ended has this output
 abbrev pub IsSourceOutput : Program → List ℕ → Type 0
-IsSourceOutput p out = (actions : List (ℕ × Action)) × (w : World) × SourceRun p actions w × HasEnded p actions × (w.out ≡ out)
+IsSourceOutput p out = (events : List (ℕ × Event)) × (w : World) × SourceRun p events w × HasEnded p events × (w.out ≡ out)
 
 -- a source run of the program has trapped
 abbrev pub HasSourceTrap : Program → Type 0
-HasSourceTrap p = (actions : List (ℕ × Action)) × (w : World) × SourceRun p actions w × HasTrapped actions
+HasSourceTrap p = (events : List (ℕ × Event)) × (w : World) × SourceRun p events w × HasTrapped events
 
 -- where a compiled program was run to its end, its output is that of a source run; where it trapped, a source run traps
 abbrev pub IsSourced : Command → List ℕ → Status → List ℕ → Type 0

@@ -4,7 +4,7 @@ ghost use Rattle.std.specs.Prelude.{◌≡◌, Some, None, map, string_bytes, If
 ghost use Rattle.xc_top_words.specs.Words.{command_of};
 ghost use Rattle.xc_top.specs.Seen.{shelf_seen, sink_seen, Puts};
 ghost use Rattle.xc_tree.specs.declared.tree.Tree.{Tree};
-ghost use Rattle.xc_meaning.specs.Terms.{program_of};
+ghost use Rattle.xc_meaning_trees.specs.Trees.{program_of};
 ghost use Rattle.xc_top.specs.Answers.{MayHaveFetched, Cause, Finishes, Writes, Tells, CanRun, IsRunToEnd};
 
 use crate::fetch::{Unread, fetch_texts};

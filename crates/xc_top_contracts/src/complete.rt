@@ -1,6 +1,6 @@
 ghost use Rattle.std.specs.Prelude.{map, string_bytes};
 ghost use Rattle.xc_tree.specs.declared.tree.Tree.{Tree};
-ghost use Rattle.xc_meaning.specs.Terms.{program_of};
+ghost use Rattle.xc_meaning_trees.specs.Trees.{program_of};
 ghost use Rattle.xc_top_words.specs.Words.{command_of};
 ghost use Rattle.xc_top.specs.Seen.{shelf_seen, sink_seen};
 ghost use Rattle.xc_top.specs.Answers.{CanRun, IsRunToEnd};
